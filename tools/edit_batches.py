@@ -210,9 +210,11 @@ def tried(place, edits, texts, names, words=()):
     crate = edits[0].crate
     own = {path.relative_to(crate): text for path, text in texts.items()}
     only = [word for name in names for word in ("--only", name)]
+    begun = time.monotonic()
     lines = place.tried(crate.name, own, ["--jobs", "1", *words, *only])[1]
     with LOG.open("a") as log:
-        log.write("".join(f"{line}\n" for line in (f"== {' '.join(edit.label for edit in edits)}", *lines)))
+        head = f"== {' '.join(edit.label for edit in edits)}, in {time.monotonic() - begun:.0f} seconds"
+        log.write("".join(f"{line}\n" for line in (head, *lines)))
     return lines
 
 

@@ -18,6 +18,9 @@ SEEN_BY_C = {"hb_glyph_info_t", "GlyphPosition"}
 # Errors, and values that name calls: more may come, so that a match of a user's has an arm for them.
 OPEN_ENDED = {"Call", "LanguageError", "RenderFault", "ShapeError", "VerifyError"}
 
+# Types for which the package has a `Debug` of its own, in `facade.rs`.
+SHOWN_BY_HAND = {"UnicodeBuffer", "GlyphBuffer"}
+
 # Types whose public fields are for the package's own modules, and no part of its interface.
 OF_MODULES = {"Face"}
 
@@ -166,7 +169,11 @@ class Erased(Bodies):
                 self.source.refuse(attribute.first, f"the derive of `{name}` is not known")
         if "Error" in names:
             self.write_error(item)
-        kept = [name for name in names if name not in ("Drop", "Error")]
+        kept = [name for name in names if name not in ("Drop", "Error", "Debug", "Default")]
+        if item.name not in SHOWN_BY_HAND:
+            # (most types of Rattle derive no `Debug`, which costs them a proof)
+            kept.append("Debug")
+        kept += [name for name in names if name == "Default"]
         if kept:
             self.cut(attribute.first, attribute.last)
             self.put(attribute.first, f"#[derive({', '.join(kept)})]")

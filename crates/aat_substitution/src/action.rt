@@ -16,7 +16,7 @@ use shaping_buffer::hb_buffer_t;
 use std::alloc::AllocError;
 
 /// What a subtable does, by its kind.
-#[derive(Clone, Copy, Debug)]
+#[derive(Clone, Copy)]
 #[allow(clippy::large_enum_variant)] // a ligature remembers its glyphs
 pub(crate) enum Action<'a> {
     /// It puts glyphs in another order.

@@ -10,7 +10,7 @@ use std::alloc::{AllocError, Global};
 const SMALL_CAPS: u16 = 3;
 
 /// The flags of each chain, in each part of the text.
-#[derive(Drop, Debug)]
+#[derive(Drop)]
 pub struct ChainFlags {
     /// The last cluster of each part, in order: the last part goes on for ever.
     ends: Vec<u32>,

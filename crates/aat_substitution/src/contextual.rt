@@ -21,7 +21,7 @@ const NONE: u16 = 0xFFFF;
 const LOOKUPS: usize = 16;
 
 /// The lookups of a subtable, and the glyph that is marked.
-#[derive(Clone, Copy, Debug)]
+#[derive(Clone, Copy)]
 pub(crate) struct Contextual<'a> {
     /// The list of lookups: where each is, from the start of the list.
     lookups: &'a [u8],

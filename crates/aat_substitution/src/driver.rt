@@ -15,7 +15,7 @@ use shaping_buffer::hb_buffer_t;
 use std::alloc::AllocError;
 
 /// Where a walk is.
-#[derive(Clone, Copy, PartialEq, Eq, Debug)]
+#[derive(Clone, Copy, PartialEq, Eq)]
 struct Place {
     /// The state of the table.
     state: u16,
@@ -24,7 +24,7 @@ struct Place {
 }
 
 /// What became of a step.
-#[derive(Clone, Copy, PartialEq, Eq, Debug)]
+#[derive(Clone, Copy, PartialEq, Eq)]
 enum Step {
     /// The walk goes on.
     On(Place),

@@ -6,7 +6,7 @@ ghost use Rattle.std.specs.Prelude.{◌≡◌, IfSome};
 use rb_common::Tag;
 
 /// A feature of OpenType, and the feature of Apple's that stands for it.
-#[derive(Clone, Copy, PartialEq, Eq, Debug)]
+#[derive(Clone, Copy, PartialEq, Eq)]
 pub struct FeatureMapping {
     /// The tag of the OpenType feature.
     pub tag: Tag,

@@ -38,7 +38,7 @@ const NONE: u16 = 0xFFFF;
 const GLYPHS: usize = 16;
 
 /// Glyphs that are put in.
-#[derive(Clone, Copy, Debug)]
+#[derive(Clone, Copy)]
 struct Inserted<'a> {
     /// The glyphs, two bytes each.
     glyphs: &'a [u8],
@@ -49,7 +49,7 @@ struct Inserted<'a> {
 }
 
 /// The glyphs of a subtable, and the place of the marked glyph.
-#[derive(Clone, Copy, Debug)]
+#[derive(Clone, Copy)]
 pub(crate) struct Insertion<'a> {
     glyphs: &'a [u8],
     mark: usize,

@@ -35,7 +35,7 @@ const OFFSET_SIGN: u32 = 0x2000_0000;
 const STACK_SIZE: usize = 64;
 
 /// The tables of a subtable, and the stack of components.
-#[derive(Clone, Copy, Debug)]
+#[derive(Clone, Copy)]
 pub(crate) struct Ligature<'a> {
     actions: &'a [u8],
     components: &'a [u8],
@@ -47,7 +47,7 @@ pub(crate) struct Ligature<'a> {
 }
 
 /// What an action makes of a component.
-#[derive(Clone, Copy, PartialEq, Eq, Debug)]
+#[derive(Clone, Copy, PartialEq, Eq)]
 enum Made {
     /// Nothing yet: another component follows.
     Nothing,

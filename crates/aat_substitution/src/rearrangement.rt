@@ -25,7 +25,7 @@ const VERB: u16 = 0x000F;
 const MAX_GLYPHS: usize = 64;
 
 /// How many glyphs at an end are moved to the other end.
-#[derive(Clone, Copy, PartialEq, Eq, Debug)]
+#[derive(Clone, Copy, PartialEq, Eq)]
 enum End {
     /// None.
     None,
@@ -71,7 +71,7 @@ const VERBS: [(End, End); 16] = [
 ];
 
 /// The glyphs that are put in order next.
-#[derive(Clone, Copy, Debug)]
+#[derive(Clone, Copy)]
 pub(crate) struct Rearrangement {
     start: usize,
     end: usize,

@@ -19,7 +19,7 @@ pub(crate) const LOWER_CASE_SMALL_CAPS: u16 = 1;
 pub(crate) const LETTER_CASE: u16 = 3;
 
 /// A setting of a feature, and the part of the text that has it.
-#[derive(Clone, Copy, PartialEq, Eq, Debug)]
+#[derive(Clone, Copy, PartialEq, Eq)]
 pub struct SelectedFeature {
     /// The type of the feature.
     pub kind: u16,

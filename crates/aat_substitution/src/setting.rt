@@ -8,7 +8,7 @@ use font_tables::gdef::Gdef;
 pub(crate) const DONT_ADVANCE: u16 = 0x4000;
 
 /// Where a subtable is applied: in the parts of the text in which one of its flags is on.
-#[derive(Clone, Copy, Debug)]
+#[derive(Clone, Copy)]
 pub(crate) struct Reach<'a> {
     /// The flags of chains in the parts of the text.
     pub flags: &'a ChainFlags,
@@ -31,7 +31,7 @@ impl Reach<'_> {
 }
 
 /// A subtable with a state table, and where it is applied.
-#[derive(Clone, Copy, Debug)]
+#[derive(Clone, Copy)]
 pub(crate) struct Setting<'a> {
     /// The state table.
     pub machine: StateTable<'a>,

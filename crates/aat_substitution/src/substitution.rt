@@ -18,7 +18,7 @@ use shaping_buffer::{Direction, hb_buffer_t};
 use std::alloc::AllocError;
 
 /// The chains of a font, and how they are applied.
-#[derive(Clone, Copy, Debug)]
+#[derive(Clone, Copy)]
 pub struct Substitution<'a> {
     /// The chains.
     pub table: &'a Metamorphosis<'a>,

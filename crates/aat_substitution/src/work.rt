@@ -3,7 +3,6 @@
 ghost use Rattle.std.specs.Prelude.{◌≡◌, ◌≤◌, IsFalse};
 ghost use Rattle.ot_layout.specs.Budget.{IsNotMore};
 
-use aat_tables::metamorphosis::all_glyphs;
 use glyph_digests::Digest;
 use ot_layout::Budget;
 use rb_glyph::hb_glyph_info_t;
@@ -12,7 +11,7 @@ use rb_glyph::hb_glyph_info_t;
 const DIGEST_THRESHOLD: usize = 32;
 
 /// What is left to spend, and which glyphs the text may have.
-#[derive(Clone, Copy, Debug)]
+#[derive(Clone, Copy)]
 pub(crate) struct Work {
     /// What is left to spend.
     pub budget: Budget,
@@ -32,7 +31,7 @@ impl Work {
             digest: if glyphs.len() < DIGEST_THRESHOLD {
                 Digest::of_glyphs(glyphs)
             } else {
-                all_glyphs()
+                Digest::full()
             },
         }
     }

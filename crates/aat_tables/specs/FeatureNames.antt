@@ -1,5 +1,5 @@
 -- The table `feat`: the features of a font, by their types, and the settings of each.
-use Rattle.std.specs.Prelude.{◌+◌, ◌*◌, ◌/◌, ◌%◌, ℕ, List, Option, Bool, nat_eq, nat_le, unwrap_or, drop, if◌then◌else◌}
+use Rattle.std.specs.Prelude.{◌+◌, ◌*◌, ℕ, List, Option, Bool, nat_le, unwrap_or, drop}
 use Rattle.font_tables.specs.Bytes.{number_16, number_32}
 
 -- rows of twelve bytes, from the byte 12 on: the type, how many settings there are, where they stand, and flags
@@ -18,8 +18,3 @@ flags_of table row = unwrap_or (number_16 table (20 + 12 * row)) 0
 -- bit 15: of the settings one alone is on
 abbrev pub is_exclusive : ℕ → Bool
 is_exclusive flags = nat_le 32768 flags
-
--- The place of the setting that is on by default, among those of a feature: with bit 14, that in the low eight bits, and else the
--- first.
-abbrev pub default_place : ℕ → ℕ
-default_place flags = if nat_eq (flags / 16384 % 2) 1 then flags % 256 else 0

@@ -3,7 +3,7 @@
 
 ghost use Rattle.std.specs.Prelude.{◌≡◌, ◌+◌, ◌*◌, ◌<◌, ℕ, Some, IfSome};
 ghost use Rattle.font_tables.specs.Bytes.{number_16};
-ghost use Rattle.aat_tables.specs.FeatureNames.{feature_type, setting_count, settings_of, flags_of, is_exclusive, default_place};
+ghost use Rattle.aat_tables.specs.FeatureNames.{feature_type, setting_count, settings_of, flags_of, is_exclusive};
 
 use crate::glyph_rows::GlyphRows;
 use font_tables::bytes::{tail, u16_at, u32_at};
@@ -12,11 +12,8 @@ use font_tables::rows::rows_within;
 /// The bit of a feature's flags that says that of its settings one alone is on.
 const EXCLUSIVE: u16 = 0x8000;
 
-/// The bit of a feature's flags that says that they name the setting which is on by default.
-const NOT_DEFAULT: u16 = 0x4000;
-
 /// A feature of a font.
-#[derive(Clone, Copy, PartialEq, Eq, Debug)]
+#[derive(Clone, Copy, PartialEq, Eq)]
 pub struct FeatureName<'a> {
     /// How many settings it has.
     pub setting_count: u16,
@@ -45,21 +42,10 @@ impl FeatureName<'_> {
             None
         }
     }
-
-    /// The place of the setting that is on by default, where one alone is on.
-    pub fn default_place(&self) -> u16
-        ensures { result ≡ default_place self.now.flags }
-    {
-        if self.flags / NOT_DEFAULT % 2 == 1 {
-            self.flags % 256
-        } else {
-            0
-        }
-    }
 }
 
 /// The features of a font.
-#[derive(Clone, Copy, Debug)]
+#[derive(Clone, Copy)]
 pub struct FeatureNames<'a> {
     /// The bytes of the table.
     pub table: &'a [u8],

@@ -7,7 +7,7 @@ ghost use Rattle.aat_tables.specs.GlyphRows.{first_of, last_of, Holds, AreSorted
 use font_tables::bytes::u16_at;
 
 /// Rows of a table, each of a first and a last glyph.
-#[derive(Clone, Copy, PartialEq, Eq, Debug)]
+#[derive(Clone, Copy, PartialEq, Eq)]
 pub struct GlyphRows<'a> {
     /// The table.
     pub table: &'a [u8],

@@ -29,7 +29,7 @@ use glyph_digests::summary::Summary;
 pub const DELETED_GLYPH: u16 = 0xFFFF;
 
 /// A lookup table.
-#[derive(Clone, Copy, Debug)]
+#[derive(Clone, Copy)]
 pub struct Lookup<'a> {
     /// The bytes of the table.
     pub table: &'a [u8],

@@ -34,7 +34,7 @@ const FEATURE_SIZE: usize = 12;
 const SUBTABLE_HEADER: usize = 12;
 
 /// What a subtable does.
-#[derive(Clone, Copy, PartialEq, Eq, Debug)]
+#[derive(Clone, Copy, PartialEq, Eq)]
 pub enum SubtableKind {
     /// It puts glyphs in another order.
     Rearrangement,
@@ -74,7 +74,7 @@ impl SubtableKind {
 }
 
 /// A subtable.
-#[derive(Clone, Copy, Debug)]
+#[derive(Clone, Copy)]
 pub struct Subtable<'a> {
     /// What it does.
     pub kind: SubtableKind,
@@ -89,7 +89,7 @@ pub struct Subtable<'a> {
 }
 
 /// For which lines a subtable is, and in which order it goes over glyphs.
-#[derive(Clone, Copy, PartialEq, Eq, Debug)]
+#[derive(Clone, Copy, PartialEq, Eq)]
 pub struct Coverage {
     /// It is for vertical lines, and else for horizontal ones.
     pub is_vertical: bool,
@@ -116,7 +116,7 @@ impl Coverage {
 }
 
 /// What a setting of a feature does to the flags of a chain.
-#[derive(Clone, Copy, PartialEq, Eq, Debug)]
+#[derive(Clone, Copy, PartialEq, Eq)]
 pub struct ChainFeature {
     /// The type of the feature.
     pub kind: u16,
@@ -129,7 +129,7 @@ pub struct ChainFeature {
 }
 
 /// A chain: subtables that are applied one after the other.
-#[derive(Clone, Copy, Debug)]
+#[derive(Clone, Copy)]
 pub struct Chain<'a> {
     /// The flags that are on where no feature changes them.
     pub default_flags: u32,
@@ -167,7 +167,7 @@ impl Chain<'_> {
 }
 
 /// The chains of a table `morx`, which is read once. A table of which a chain or a subtable is cut short has none.
-#[derive(Drop, Debug)]
+#[derive(Drop)]
 pub struct Metamorphosis<'a> {
     /// The chains.
     pub chains: Vec<Chain<'a>>,
@@ -330,7 +330,7 @@ impl<'a> Metamorphosis<'a> {
             Some(machine) if kind != SubtableKind::Noncontextual => {
                 self.digest_of_classes(&machine.classes)
             }
-            _ => all_glyphs(),
+            _ => Digest::full(),
         }
     }
 
@@ -340,19 +340,10 @@ impl<'a> Metamorphosis<'a> {
     {
         let cost = classes.cost();
         if cost > self.room {
-            return all_glyphs();
+            return Digest::full();
         }
         self.room -= cost;
         classes.digest()
-    }
-}
-
-/// The digest of all glyphs.
-pub fn all_glyphs() -> Digest {
-    Digest {
-        singles: u64::MAX,
-        sixteens: u64::MAX,
-        blocks: u64::MAX,
     }
 }
 

@@ -20,7 +20,7 @@ pub const OUT_OF_BOUNDS: u16 = 1;
 pub const CLASS_OF_DELETED: u16 = 2;
 
 /// An entry: what is done in a state at a glyph of a class.
-#[derive(Clone, Copy, PartialEq, Eq, Debug)]
+#[derive(Clone, Copy, PartialEq, Eq)]
 pub struct Entry {
     /// The next state.
     pub new_state: u16,
@@ -31,7 +31,7 @@ pub struct Entry {
 }
 
 /// A state table of the extended form.
-#[derive(Clone, Copy, Debug)]
+#[derive(Clone, Copy)]
 pub struct StateTable<'a> {
     /// The bytes of the table, from its header on.
     pub table: &'a [u8],

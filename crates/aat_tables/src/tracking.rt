@@ -32,7 +32,7 @@ const HORIZONTAL: usize = 6;
 const VERTICAL: usize = 8;
 
 /// The tracks of a font.
-#[derive(Clone, Copy, Debug)]
+#[derive(Clone, Copy)]
 pub struct Tracking<'a> {
     /// The bytes of the table.
     pub table: &'a [u8],

@@ -130,7 +130,7 @@ static UNICODE_ENCODINGS: [(u16, u16); 8] = [
 ];
 
 /// The subtable that is used, and what its codes stand for.
-#[derive(Clone, Copy, Debug)]
+#[derive(Clone, Copy)]
 pub(crate) struct Choice<'a> {
     pub(crate) subtable: &'a [u8],
     pub(crate) encoding: Encoding,

@@ -6,7 +6,7 @@ ghost use Rattle.font_cmap.specs.Codes.{own_code, other_code};
 use crate::legacy_codes::{macintosh_roman_code, simplified_arabic_code, traditional_arabic_code};
 
 /// What the codes of a subtable stand for (OpenType specification, `cmap`, "Encoding records and encodings").
-#[derive(Clone, Copy, PartialEq, Eq, Debug)]
+#[derive(Clone, Copy, PartialEq, Eq)]
 pub enum Encoding {
     /// Characters of Unicode, or symbols whose codes are taken as they are.
     Unicode,

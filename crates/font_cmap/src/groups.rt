@@ -100,7 +100,7 @@ fn number_in_group(format: u16, code: u32, start: u32, glyph: u32) -> u16
 }
 
 /// A group: its first code, and the glyph of that.
-#[derive(Clone, Copy, Debug)]
+#[derive(Clone, Copy)]
 struct Group {
     start: u32,
     glyph: u32,
@@ -131,7 +131,7 @@ pub(crate) fn groups_glyph(table: &[u8], format: u16, code: u32) -> Option<u16>
 }
 
 /// The group that codes have, from one on up to `last`.
-#[derive(Clone, Copy, Debug)]
+#[derive(Clone, Copy)]
 struct GroupRun {
     group: Option<Group>,
     last: u32,

@@ -93,7 +93,7 @@ fn glyphs_or_others(codes: &Codes<'_>, own: &[u16; FIRST_COUNT]) -> [u16; FIRST_
 }
 
 /// The map from characters to glyphs of a font (OpenType specification, `cmap`).
-#[derive(Clone, Copy, Debug)]
+#[derive(Clone, Copy)]
 pub struct CharacterMap<'a> {
     /// The subtable that was chosen, from its format on; empty where the font has none that is understood.
     pub subtable: &'a [u8],

@@ -9,7 +9,7 @@ use std::cmp::Ordering;
 pub(crate) const FIRST_COUNT: usize = 128;
 
 /// Where a code lies from a row, and up to which code all codes lie there.
-#[derive(Clone, Copy, Debug)]
+#[derive(Clone, Copy)]
 pub(crate) struct Beside {
     pub(crate) order: Option<Ordering>,
     pub(crate) last: u32,
@@ -31,7 +31,7 @@ pub(crate) trait CodeRows {
 }
 
 /// The row that codes have, from one on up to `last`.
-#[derive(Clone, Copy, Debug)]
+#[derive(Clone, Copy)]
 pub(crate) struct RowRun {
     pub(crate) row: Option<usize>,
     pub(crate) last: u32,

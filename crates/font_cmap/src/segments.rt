@@ -115,7 +115,7 @@ fn with_delta(delta: u16, number: u32) -> Option<u16>
 }
 
 /// A segment: its number, its start, its delta and its range offset.
-#[derive(Clone, Copy, Debug)]
+#[derive(Clone, Copy)]
 struct Segment {
     row: usize,
     start: u32,
@@ -183,7 +183,7 @@ pub(crate) fn segments_glyph(table: &[u8], code: u32) -> Option<u16>
 }
 
 /// The segment that codes have, from one on up to `last`.
-#[derive(Clone, Copy, Debug)]
+#[derive(Clone, Copy)]
 struct SegmentRun {
     segment: Option<Segment>,
     last: u32,

@@ -17,7 +17,7 @@ use rb_common::GlyphId;
 use std::cmp::Ordering;
 
 /// What a font says of a character before a variation selector (OpenType specification, `cmap`, "Format 14").
-#[derive(Clone, Copy, PartialEq, Eq, Debug)]
+#[derive(Clone, Copy, PartialEq, Eq)]
 pub enum GlyphVariant {
     /// The font does not have the variation sequence.
     NotFound,
@@ -37,7 +37,7 @@ fn character_at(table: &[u8], place: usize) -> Option<u32>
 }
 
 /// Rows of `size` bytes each, of which the first has its key, a number of 24 bits, at the byte `start`.
-#[derive(Clone, Copy, Debug)]
+#[derive(Clone, Copy)]
 struct Keys24<'a> {
     table: &'a [u8],
     start: usize,
@@ -96,7 +96,7 @@ fn mappings(table: &[u8]) -> Keys24<'_>
 }
 
 /// Ranges of characters that keep their glyph.
-#[derive(Clone, Copy, Debug)]
+#[derive(Clone, Copy)]
 struct Ranges<'a>(&'a [u8]);
 
 impl KeyedRows for Ranges<'_> {

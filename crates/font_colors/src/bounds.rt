@@ -5,7 +5,7 @@ ghost use Rattle.std.specs.Prelude.{◌≡◌};
 use crate::extents::Extents;
 
 /// How far what is painted reaches.
-#[derive(Clone, Copy, PartialEq, Eq, Debug)]
+#[derive(Clone, Copy, PartialEq, Eq)]
 pub(crate) enum Status {
     /// Everywhere.
     Unbounded,
@@ -17,7 +17,7 @@ pub(crate) enum Status {
 
 /// Bounds of what is painted. A box that no longer counts is kept, as HarfBuzz keeps it, which gives the box of a glyph whether it
 /// counts or not.
-#[derive(Clone, Copy, Debug)]
+#[derive(Clone, Copy)]
 pub(crate) struct Bounds {
     /// How far it reaches.
     pub status: Status,

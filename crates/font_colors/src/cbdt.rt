@@ -14,7 +14,7 @@ use rb_common::GlyphId;
 use rb_glyph::GlyphExtents;
 
 /// The tables of a font with bitmaps of `CBDT`, and the strike that is used.
-#[derive(Clone, Copy, Debug)]
+#[derive(Clone, Copy)]
 pub struct CbdtTables<'a> {
     /// The table `CBLC`, which says where bitmaps lie.
     pub cblc: &'a [u8],

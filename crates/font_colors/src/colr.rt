@@ -14,7 +14,7 @@ use rb_glyph::GlyphExtents;
 use std::num::saturating_f32_to_i32;
 
 /// The table of a font with glyphs that are drawn in colours, as far as it says boxes of them.
-#[derive(Clone, Copy, Debug)]
+#[derive(Clone, Copy)]
 pub struct ColrTable<'a> {
     /// The bytes of the table.
     pub table: &'a [u8],

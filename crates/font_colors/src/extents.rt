@@ -4,7 +4,7 @@ ghost use Rattle.std.specs.Prelude.{◌≡◌};
 ghost use Rattle.font_colors.specs.Extents.{greater, lesser};
 
 /// A box of what is drawn. One around nothing ends before it begins, as `Extents::VOID`.
-#[derive(Clone, Copy, Debug)]
+#[derive(Clone, Copy)]
 pub(crate) struct Extents {
     /// The left side.
     pub x_min: f32,

@@ -10,7 +10,7 @@ use std::alloc::{AllocError, Global};
 use std::num::nearest_i64_to_f32;
 
 /// What outlines of glyphs are drawn from.
-#[derive(Clone, Copy, Debug)]
+#[derive(Clone, Copy)]
 pub struct DrawnOutlines<'a> {
     /// The outlines of `glyf`, and their variations.
     pub sources: GlyphSources<'a>,

@@ -7,7 +7,7 @@ use font_variations::rounding::{float, rounded};
 use rb_glyph::GlyphExtents;
 
 /// The box of a bitmap.
-#[derive(Clone, Copy, Debug)]
+#[derive(Clone, Copy)]
 pub struct PixelBox {
     /// The box, in pixels.
     pub extents: GlyphExtents,

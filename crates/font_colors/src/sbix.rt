@@ -15,7 +15,7 @@ use rb_glyph::GlyphExtents;
 const MOST_GLYPHS: u8 = 9;
 
 /// The table of a font with bitmaps of `sbix`, and the strike that is used.
-#[derive(Clone, Copy, Debug)]
+#[derive(Clone, Copy)]
 pub struct SbixTable<'a> {
     /// The bytes of the table.
     pub table: &'a [u8],

@@ -6,7 +6,7 @@ use crate::angles::{sine_and_cosine, tangent};
 use crate::extents::Extents;
 
 /// An affine transform: a point `(x, y)` is brought to `(xx x + xy y + dx, yx x + yy y + dy)`.
-#[derive(Clone, Copy, Debug)]
+#[derive(Clone, Copy)]
 pub(crate) struct Transform {
     /// How far right a step to the right leads.
     pub xx: f32,

@@ -13,7 +13,7 @@ use rb_glyph::GlyphExtents;
 use std::alloc::{AllocError, Global};
 
 /// What the bounds of a font's glyphs are found from.
-#[derive(Clone, Copy, Debug)]
+#[derive(Clone, Copy)]
 pub(crate) struct BoundsSource<'a> {
     /// Bitmaps, and glyphs that are drawn in colours.
     pub color: ColorTables<'a>,

@@ -12,7 +12,7 @@ use rb_common::{GlyphId, Tag};
 use rb_glyph::GlyphExtents;
 
 /// The tables of a font with bitmaps, and with glyphs that are drawn in colours.
-#[derive(Clone, Copy, Debug)]
+#[derive(Clone, Copy)]
 pub struct ColorTables<'a> {
     /// Bitmaps of the table `sbix`.
     pub sbix: SbixTable<'a>,

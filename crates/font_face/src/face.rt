@@ -10,7 +10,7 @@ ghost use Rattle.font_cmap.specs.Codes.{glyph_index, glyph_variation_index};
 
 use crate::color::ColorTables;
 use crate::directory::Directory;
-use crate::layout::{Layout, is_read};
+use crate::layout::Layout;
 use crate::variations::FaceVariations;
 use aat_tables::Metamorphosis;
 use font_cmap::CharacterMap;
@@ -30,7 +30,7 @@ use rb_common::{GlyphId, Tag};
 use std::alloc::{AllocError, Global};
 
 /// The lookups of a font.
-#[derive(Debug, Drop)]
+#[derive(Drop)]
 pub struct Lookups<'a> {
     /// Those of `GSUB`.
     pub substitutions: LookupList<'a>,
@@ -41,7 +41,7 @@ pub struct Lookups<'a> {
 }
 
 /// A font of a file: what shaping asks of it, found once.
-#[derive(Debug, Drop)]
+#[derive(Drop)]
 pub struct Face<'a> {
     /// The tables of the font.
     pub tables: Tables<'a>,
@@ -239,7 +239,7 @@ fn face_of<'a>(
         gdef,
         outlines: outlines_of(&tables, head, glyph_count),
         color: ColorTables::new(&tables, glyph_count, 0, 0),
-        has_gpos: is_read(tables.table(Tag::from_bytes(b"GPOS"))),
+        has_gpos: layout.has_gpos(&tables),
         layout,
         lookups,
         alloc,

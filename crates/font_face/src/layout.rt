@@ -4,6 +4,7 @@ ghost use Rattle.std.specs.Prelude.{◌≡◌, codes};
 ghost use Rattle.rb_common.specs.Tag.{tag_of};
 ghost use Rattle.font_tables.specs.Directory.{table_of};
 ghost use Rattle.font_face.specs.Face.{IsLayoutOf, is_read, read_table};
+ghost use Rattle.font_face.specs.Tables.{table_in};
 
 use crate::directory::Directory;
 use font_tables::bytes::{u16_at, u32_at};
@@ -11,7 +12,7 @@ use ot_lookups::subtable_limit::is_refused;
 use rb_common::Tag;
 
 /// The tables that substitute and position glyphs, each empty where the font has none.
-#[derive(Clone, Copy, Debug)]
+#[derive(Clone, Copy)]
 pub struct Layout<'a> {
     /// The table `GSUB`, which substitutes glyphs, where HarfBuzz reads it.
     pub gsub: &'a [u8],
@@ -41,6 +42,15 @@ impl<'a> Layout<'a> {
             trak: tables.table(Tag::from_bytes(b"trak")),
         }
     }
+
+    /// Whether the font has a table `GPOS` that is read.
+    #[tactic(auto, using(crate::proofs::LayoutLemmas::not_empty_is_read))]
+    pub(crate) fn has_gpos(&self, _tables: &Directory<'a>) -> bool
+        requires { IsLayoutOf self.now _tables.now.tables }
+        ensures { result ≡ is_read (table_in _tables.now.tables (codes "GPOS")) }
+    {
+        !self.gpos.is_empty()
+    }
 }
 
 /// A table of lookups, if it is read.
@@ -52,7 +62,7 @@ fn read_table(table: &[u8]) -> &[u8]
 
 /// Whether a table of lookups is read: one of version 1 holds its header, with the offset of feature variations from version 1.1 on,
 /// and is not refused for its subtables. One of an unknown version is read as one without lookups.
-pub(crate) fn is_read(table: &[u8]) -> bool
+fn is_read(table: &[u8]) -> bool
     ensures { result ≡ is_read table.now }
 {
     match u16_at(table, 0) {

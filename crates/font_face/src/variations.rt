@@ -16,7 +16,7 @@ use rb_common::Tag;
 use std::alloc::{AllocError, Global};
 
 /// What a font says of its variations, found once, and the place that is chosen in them.
-#[derive(Debug, Drop)]
+#[derive(Drop)]
 pub struct FaceVariations<'a> {
     /// The axes.
     pub axes: VariationAxes<'a>,

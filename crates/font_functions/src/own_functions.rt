@@ -9,7 +9,7 @@ use rb_glyph::GlyphExtents;
 use std::alloc::AllocError;
 
 /// A font whose own tables answer (HarfBuzz's `hb_ot_font_set_funcs`).
-#[derive(Clone, Copy, Debug)]
+#[derive(Clone, Copy)]
 pub struct OwnFunctions<'a> {
     /// The font.
     pub face: &'a Face<'a>,

@@ -11,14 +11,14 @@ use font_variations::rounding::float;
 use rb_common::GlyphId;
 
 /// The components of an outline, which are read one after the other.
-#[derive(Clone, Copy, Debug)]
+#[derive(Clone, Copy)]
 pub(crate) struct Components<'a> {
     rest: &'a [u8],
     has_more: bool,
 }
 
 /// A component of an outline.
-#[derive(Clone, Copy, Debug)]
+#[derive(Clone, Copy)]
 pub(crate) struct Component {
     /// The glyph; `None` where its number is past 16 bits.
     pub glyph: Option<GlyphId>,
@@ -33,7 +33,7 @@ pub(crate) struct Component {
 }
 
 /// How points are turned and stretched.
-#[derive(Clone, Copy, PartialEq, Debug)]
+#[derive(Clone, Copy, PartialEq)]
 pub(crate) struct Matrix {
     /// How far to the right a unit to the right goes.
     pub xx: f32,

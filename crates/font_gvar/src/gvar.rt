@@ -7,7 +7,7 @@ use font_tables::bytes::{part, tail, u16_at, u32_at};
 use rb_common::GlyphId;
 
 /// A table `gvar`.
-#[derive(Clone, Copy, Debug)]
+#[derive(Clone, Copy)]
 pub struct GlyphVariations<'a> {
     /// The bytes of the table; none where it is broken.
     table: &'a [u8],

@@ -10,7 +10,7 @@ use rb_glyph::GlyphExtents;
 use std::alloc::{AllocError, Global};
 
 /// An outline at a place in the variations of a font.
-#[derive(Clone, Copy, Debug)]
+#[derive(Clone, Copy)]
 pub struct VariedOutline {
     /// The box around its points, in whole font units.
     pub extents: GlyphExtents,
@@ -65,7 +65,7 @@ fn outline_of(points: &[OutlinePoint]) -> VariedOutline {
 }
 
 /// The box around points: one without points ends before it begins.
-#[derive(Clone, Copy, Debug)]
+#[derive(Clone, Copy)]
 pub struct PointBounds {
     /// The left and lower corner.
     pub min: Point,

@@ -7,7 +7,7 @@ ghost use Rattle.font_gvar.specs.PackedDeltas.{delta_of_size, delta_size, deltas
 use font_tables::bytes::{i16_at, tail, u8_at, u32_at};
 
 /// A list of deltas, which is read delta by delta.
-#[derive(Clone, Copy, Debug)]
+#[derive(Clone, Copy)]
 pub(crate) struct PackedDeltas<'a> {
     /// What is not read yet.
     rest: &'a [u8],

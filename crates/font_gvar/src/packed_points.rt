@@ -7,7 +7,7 @@ ghost use Rattle.font_gvar.specs.PackedPoints.{are_wide, declared_points, points
 use font_tables::bytes::{tail, u8_at, u16_at};
 
 /// A list of numbers of points, which is read number by number.
-#[derive(Clone, Copy, Debug)]
+#[derive(Clone, Copy)]
 pub(crate) struct PackedPoints<'a> {
     /// What is not read yet.
     rest: &'a [u8],

@@ -15,7 +15,7 @@ use crate::tuples::{Tuple, Tuples};
 use rb_common::GlyphId;
 
 /// The phantom points of a glyph.
-#[derive(Clone, Copy, PartialEq, Debug, Default)]
+#[derive(Clone, Copy, PartialEq, Default)]
 pub struct Phantoms {
     /// The origin in horizontal lines.
     pub left: Point,
@@ -142,7 +142,7 @@ fn own_phantoms(
 }
 
 /// Phantom points, and by how much they are still to be moved.
-#[derive(Clone, Copy, Debug)]
+#[derive(Clone, Copy)]
 struct VariedPhantoms {
     phantoms: Phantoms,
     deltas: Phantoms,

@@ -3,7 +3,7 @@
 ghost use Rattle.std.specs.Prelude.{◌≡◌};
 
 /// A point, or by how much a point moves, in font units.
-#[derive(Clone, Copy, PartialEq, Debug, Default)]
+#[derive(Clone, Copy, PartialEq, Default)]
 pub struct Point {
     /// To the right.
     pub x: f32,
@@ -46,7 +46,7 @@ impl Point {
 }
 
 /// A point of an outline.
-#[derive(Clone, Copy, Debug, Default)]
+#[derive(Clone, Copy, Default)]
 pub(crate) struct OutlinePoint {
     /// Where it is.
     pub at: Point,
@@ -55,7 +55,7 @@ pub(crate) struct OutlinePoint {
 }
 
 /// By how much a point moves.
-#[derive(Clone, Copy, Debug, Default)]
+#[derive(Clone, Copy, Default)]
 pub(crate) struct Delta {
     /// By how much.
     pub by: Point,

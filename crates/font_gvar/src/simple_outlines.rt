@@ -57,7 +57,7 @@ fn mark_ends(points: &mut [OutlinePoint], outline: &[u8], contours: u16) {
 }
 
 /// The points of an outline, which are read one after the other.
-#[derive(Clone, Copy, Debug)]
+#[derive(Clone, Copy)]
 struct PointReader<'a> {
     flags: FlagReader<'a>,
     x: &'a [u8],
@@ -67,7 +67,7 @@ struct PointReader<'a> {
 }
 
 /// The flags of points.
-#[derive(Clone, Copy, Debug)]
+#[derive(Clone, Copy)]
 struct FlagReader<'a> {
     rest: &'a [u8],
     flag: u8,

@@ -14,7 +14,7 @@ use font_variations::rounding::float;
 use rb_common::GlyphId;
 
 /// The tables of a font's outlines, with those of advances and side bearings.
-#[derive(Clone, Copy, Debug)]
+#[derive(Clone, Copy)]
 pub struct GlyphSources<'a> {
     /// The outlines.
     pub outlines: GlyfTables<'a>,
@@ -111,7 +111,7 @@ fn upwards(y: i32) -> Point
 pub(crate) const HEADER_SIZE: usize = 10;
 
 /// What an outline is.
-#[derive(Clone, Copy, PartialEq, Eq, Debug)]
+#[derive(Clone, Copy, PartialEq, Eq)]
 pub(crate) enum OutlineKind {
     /// It has no points.
     Empty,

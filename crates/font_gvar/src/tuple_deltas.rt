@@ -7,7 +7,7 @@ use crate::tuples::Tuple;
 use font_variations::rounding::float;
 
 /// The points of a tuple, each with its delta, which are read one after the other.
-#[derive(Clone, Copy, Debug)]
+#[derive(Clone, Copy)]
 pub(crate) struct TupleDeltas<'a> {
     /// Whether they are all points of the glyph, in their order.
     pub is_for_all: bool,

@@ -65,7 +65,7 @@ fn ends_of<'a>(variations: &GlyphVariations<'a>, tuple: &Tuple<'a>) -> Option<&'
 }
 
 /// The tuples of coordinates of a part of the space of variations.
-#[derive(Clone, Copy, Debug)]
+#[derive(Clone, Copy)]
 struct Tent<'a> {
     /// Where the deltas hold in full.
     peaks: &'a [u8],

@@ -10,7 +10,7 @@ use crate::packed_points::PackedPoints;
 use font_tables::bytes::{part, tail, u16_at};
 
 /// The tuples of a glyph, which are read one after the other.
-#[derive(Clone, Copy, Debug)]
+#[derive(Clone, Copy)]
 pub(crate) struct Tuples<'a> {
     /// The points that tuples without points of their own are for.
     shared_points: PackedPoints<'a>,
@@ -25,7 +25,7 @@ pub(crate) struct Tuples<'a> {
 }
 
 /// A tuple of a glyph's variations.
-#[derive(Clone, Copy, Debug)]
+#[derive(Clone, Copy)]
 pub(crate) struct Tuple<'a> {
     /// Its flags, and the number of a shared tuple of coordinates.
     pub flags: u16,

@@ -19,7 +19,7 @@ use rb_common::GlyphId;
 use rb_glyph::GlyphExtents;
 
 /// The table of a font with CFF outlines.
-#[derive(Clone, Copy, Debug)]
+#[derive(Clone, Copy)]
 pub struct CffTable<'a> {
     /// The charset, which names the glyphs.
     pub charset: &'a [u8],

@@ -16,7 +16,7 @@ use rb_common::GlyphId;
 use rb_glyph::GlyphExtents;
 
 /// The table of a font with CFF2 outlines.
-#[derive(Clone, Copy, Debug)]
+#[derive(Clone, Copy)]
 pub struct Cff2Table<'a> {
     /// How many glyphs the font has.
     pub glyph_count: u16,

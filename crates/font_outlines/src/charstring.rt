@@ -21,7 +21,7 @@ pub(crate) const DEEPEST_CALL: u32 = 10;
 pub(crate) const MOST_STEPS: u32 = 199_999;
 
 /// The subroutines that a charstring may call, as two INDEXes.
-#[derive(Clone, Copy, Debug)]
+#[derive(Clone, Copy)]
 pub(crate) struct Subroutines<'a> {
     /// Those of the glyph's own Private DICT.
     pub local: &'a [u8],
@@ -30,7 +30,7 @@ pub(crate) struct Subroutines<'a> {
 }
 
 /// What a charstring draws.
-#[derive(Clone, Copy, Debug)]
+#[derive(Clone, Copy)]
 pub(crate) struct Drawing {
     /// Its path.
     pub path: Path,
@@ -39,7 +39,7 @@ pub(crate) struct Drawing {
 }
 
 /// A character of two glyphs (The Type 2 Charstring Format, Appendix C, "endchar").
-#[derive(Clone, Copy, Debug)]
+#[derive(Clone, Copy)]
 pub(crate) struct Accented {
     /// How far the accent's origin lies from the base's.
     pub accent_at: Point,

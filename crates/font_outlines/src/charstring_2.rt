@@ -10,7 +10,7 @@ use font_variations::VariationStore;
 use std::num::{nearest_i64_to_f64, saturating_f64_to_i32};
 
 /// What a charstring of `CFF2` is run with.
-#[derive(Clone, Copy, Debug)]
+#[derive(Clone, Copy)]
 pub(crate) struct Setting2<'a> {
     /// The subroutines of the glyph's Private DICT, as an INDEX.
     pub local: &'a [u8],

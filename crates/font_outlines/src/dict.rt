@@ -4,7 +4,7 @@ use crate::operand::{number, number_length};
 use font_tables::bytes::{tail, u8_at, u32_at};
 
 /// What outlines need of a Top DICT, a Font DICT or a Private DICT: 0 where the DICT does not say it.
-#[derive(Clone, Copy, Debug, Default)]
+#[derive(Clone, Copy, Default)]
 pub(crate) struct Dict {
     /// The offset of the charset, or the number of a predefined one.
     pub charset: i32,

@@ -9,7 +9,7 @@ use rb_common::GlyphId;
 use rb_glyph::GlyphExtents;
 
 /// The tables of a font with TrueType outlines.
-#[derive(Clone, Copy, Debug)]
+#[derive(Clone, Copy)]
 pub struct GlyfTables<'a> {
     /// The outlines of all glyphs.
     pub glyf: &'a [u8],

@@ -8,7 +8,7 @@ use rb_glyph::GlyphExtents;
 /// The outlines of a font: those of `glyf`, and of `CFF ` for the glyphs that `glyf` does not have.
 ///
 /// Variations and the table `CFF2` are not read.
-#[derive(Clone, Copy, Debug)]
+#[derive(Clone, Copy)]
 pub struct Outlines<'a> {
     /// The tables `glyf` and `loca`.
     pub glyf: GlyfTables<'a>,

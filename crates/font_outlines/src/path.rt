@@ -1,7 +1,7 @@
 //! The path that a charstring draws, and its bounds.
 
 /// A point, or how far it is from one point to another, in 65,536ths of a font unit.
-#[derive(Clone, Copy, Debug, Default)]
+#[derive(Clone, Copy, Default)]
 pub struct Point {
     /// To the right.
     pub x: i64,
@@ -30,7 +30,7 @@ impl Point {
 }
 
 /// A box around points: one without points, as `Bounds::EMPTY`, ends before it begins.
-#[derive(Clone, Copy, Debug)]
+#[derive(Clone, Copy)]
 pub struct Bounds {
     /// The left and lower corner.
     pub min: Point,
@@ -102,7 +102,7 @@ impl Bounds {
 }
 
 /// A path, as far as its bounds ask for it: they include the points that control its curves.
-#[derive(Clone, Copy, Debug)]
+#[derive(Clone, Copy)]
 pub(crate) struct Path {
     /// The current point.
     pub point: Point,

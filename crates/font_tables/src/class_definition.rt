@@ -16,7 +16,7 @@ use rb_common::GlyphId;
 /// A class definition table.
 ///
 /// By the specification ranges rise: the class is then found by bisection. Where they do not, it is found by a walk.
-#[derive(Clone, Copy, Debug)]
+#[derive(Clone, Copy)]
 pub struct ClassDefinition<'a> {
     /// The bytes of the table.
     pub table: &'a [u8],

@@ -19,7 +19,7 @@ const MANY_ROWS: u16 = 128;
 ///
 /// By the specification the glyphs of a list rise, and so do ranges: an index is then found by bisection. Where they do
 /// not, it is found by a walk.
-#[derive(Clone, Copy, Debug)]
+#[derive(Clone, Copy)]
 pub struct Coverage<'a> {
     /// The bytes of the table.
     pub table: &'a [u8],

@@ -37,7 +37,7 @@ pub fn face_count(file: &[u8]) -> u32
 }
 
 /// The tables of a font.
-#[derive(Clone, Copy, Debug)]
+#[derive(Clone, Copy)]
 pub struct Tables<'a> {
     /// The bytes from which offsets count: those of the file, or of a font in a Macintosh resource file.
     pub file: &'a [u8],

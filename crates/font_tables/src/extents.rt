@@ -9,7 +9,7 @@ ghost use Rattle.font_tables.specs.Extents.{uses_typo_metrics, extents_at};
 use crate::bytes::{i16_at, u16_at};
 
 /// How far horizontal lines reach, in font units.
-#[derive(Clone, Copy, PartialEq, Eq, Debug)]
+#[derive(Clone, Copy, PartialEq, Eq)]
 pub struct FontExtents {
     /// The top of a line, above the baseline: not below 0.
     pub ascender: i32,

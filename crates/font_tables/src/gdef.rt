@@ -17,7 +17,7 @@ use rb_common::GlyphId;
 const FIRST_COUNT: usize = 256;
 
 /// A table `GDEF`, of version 1.
-#[derive(Clone, Copy, Debug)]
+#[derive(Clone, Copy)]
 pub struct Gdef<'a> {
     /// The bytes of the table.
     pub table: &'a [u8],

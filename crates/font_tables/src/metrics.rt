@@ -10,7 +10,7 @@ use crate::rows::rows_within;
 use rb_common::GlyphId;
 
 /// A table `hmtx` or `vmtx`.
-#[derive(Clone, Copy, Debug)]
+#[derive(Clone, Copy)]
 pub struct Metrics<'a> {
     /// The bytes of the table.
     pub table: &'a [u8],

@@ -24,7 +24,7 @@ pub trait Rows {
 }
 
 /// Rows of `size` bytes each, of which the first has its last key, a number of 16 bits, at the byte `start`.
-#[derive(Clone, Copy, Debug)]
+#[derive(Clone, Copy)]
 pub struct Keys16<'a> {
     /// The table.
     pub table: &'a [u8],
@@ -48,7 +48,7 @@ impl Rows for Keys16<'_> {
 }
 
 /// Numbers of 16 bits, each of which is the last key of its row.
-#[derive(Clone, Copy, Debug)]
+#[derive(Clone, Copy)]
 pub struct Numbers16<'a>(pub &'a [[u8; 2]]);
 
 impl Rows for Numbers16<'_> {

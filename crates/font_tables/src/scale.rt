@@ -6,7 +6,7 @@ ghost use Rattle.std.specs.Int.{saturate_signed, w32};
 ghost use Rattle.font_tables.specs.Scale.{multiplier, multiplied, distance};
 
 /// The size at which a font is used.
-#[derive(Clone, Copy, Debug)]
+#[derive(Clone, Copy)]
 pub struct Scale {
     /// How long an em is across.
     pub x: i32,

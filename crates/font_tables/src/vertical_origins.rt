@@ -10,7 +10,7 @@ use crate::rows::{Keys16, first_row, rises, rows_within};
 use rb_common::GlyphId;
 
 /// A table `VORG`.
-#[derive(Clone, Copy, Debug)]
+#[derive(Clone, Copy)]
 pub struct VerticalOrigins<'a> {
     /// The bytes of the table.
     pub table: &'a [u8],

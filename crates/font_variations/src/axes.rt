@@ -9,7 +9,7 @@ use font_tables::bytes::{part, tail, u16_at, u32_at};
 use rb_common::Tag;
 
 /// The axes of a font: those of its table `fvar`.
-#[derive(Clone, Copy, Debug)]
+#[derive(Clone, Copy)]
 pub struct VariationAxes<'a> {
     /// The records of the axes, each of 20 bytes.
     pub axes: &'a [u8],
@@ -24,7 +24,7 @@ pub struct VariationAxes<'a> {
 }
 
 /// An axis of a font.
-#[derive(Clone, Copy, PartialEq, Debug)]
+#[derive(Clone, Copy, PartialEq)]
 pub struct Axis {
     /// Its tag, such as `wght`.
     pub tag: Tag,

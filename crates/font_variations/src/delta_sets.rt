@@ -9,7 +9,7 @@ use crate::rounding::float;
 use font_tables::bytes::{i16_at, u8_at, u16_at, u32_at};
 
 /// A table of delta sets, each a row with a delta of each of its regions.
-#[derive(Clone, Copy, Debug)]
+#[derive(Clone, Copy)]
 pub struct DeltaSets<'a> {
     /// The bytes of the table.
     pub table: &'a [u8],

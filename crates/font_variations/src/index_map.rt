@@ -10,7 +10,7 @@ use font_tables::bytes::{u8_at, u16_at, u24_at, u32_at};
 pub type DeltaSetIndex = u32;
 
 /// A map from numbers of glyphs, or of other things, to delta sets.
-#[derive(Clone, Copy, Debug)]
+#[derive(Clone, Copy)]
 pub struct IndexMap<'a> {
     /// The bytes of the table.
     pub table: &'a [u8],

@@ -11,7 +11,7 @@ use font_tables::bytes::{table_at_32, u16_at};
 use rb_common::GlyphId;
 
 /// A table `HVAR` or `VVAR`.
-#[derive(Clone, Copy, Debug)]
+#[derive(Clone, Copy)]
 pub struct MetricsVariations<'a> {
     /// The bytes of the table.
     pub table: &'a [u8],

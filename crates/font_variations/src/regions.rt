@@ -8,7 +8,7 @@ use crate::rounding::float;
 use font_tables::bytes::{i16_at, u16_at};
 
 /// The regions of an item variation store.
-#[derive(Clone, Copy, Debug)]
+#[derive(Clone, Copy)]
 pub struct RegionList<'a> {
     /// The bytes of the table.
     pub table: &'a [u8],

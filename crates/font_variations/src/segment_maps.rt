@@ -11,7 +11,7 @@ use crate::variation_store::VariationStore;
 use font_tables::bytes::{i16_at, table_at_32, tail, u16_at};
 
 /// The maps of a table `avar`.
-#[derive(Clone, Copy, Debug)]
+#[derive(Clone, Copy)]
 pub struct AxisMaps<'a> {
     /// The segment maps of the axes, one behind the other.
     pub maps: &'a [u8],
@@ -22,7 +22,7 @@ pub struct AxisMaps<'a> {
 }
 
 /// The second step of version 2: deltas of coordinates, by all the coordinates.
-#[derive(Clone, Copy, Debug)]
+#[derive(Clone, Copy)]
 pub struct SecondMap<'a> {
     /// Which delta set is for which axis.
     pub indices: IndexMap<'a>,

@@ -7,7 +7,7 @@ use crate::axes::{Axis, VariationAxes};
 use rb_common::Tag;
 
 /// A value on an axis of a font: HarfBuzz's `hb_variation_t`.
-#[derive(Clone, Copy, PartialEq, Debug)]
+#[derive(Clone, Copy, PartialEq)]
 pub struct Variation {
     /// The tag of the axis.
     pub tag: Tag,

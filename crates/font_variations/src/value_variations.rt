@@ -9,7 +9,7 @@ use font_tables::bytes::{table_at_16, u16_at, u32_at};
 use rb_common::Tag;
 
 /// A table `MVAR`.
-#[derive(Clone, Copy, Debug)]
+#[derive(Clone, Copy)]
 pub struct ValueVariations<'a> {
     /// The bytes of the table.
     pub table: &'a [u8],

@@ -9,7 +9,7 @@ use crate::regions::RegionList;
 use font_tables::bytes::{table_at_32, u16_at};
 
 /// An item variation store.
-#[derive(Clone, Copy, Debug)]
+#[derive(Clone, Copy)]
 pub struct VariationStore<'a> {
     /// The bytes of the table.
     pub table: &'a [u8],
@@ -95,7 +95,7 @@ impl<'a> VariationStore<'a> {
 }
 
 /// The deltas of a store at the place where a font stands in its variations.
-#[derive(Clone, Copy, Debug)]
+#[derive(Clone, Copy)]
 pub struct Deltas<'a> {
     /// The store.
     pub store: VariationStore<'a>,

@@ -15,7 +15,7 @@ use rb_glyph::hb_glyph_info_t;
 const ROWS: u32 = 64;
 
 /// A digest of a set of glyphs. Glyphs whose numbers are near one another are in one row.
-#[derive(Clone, Copy, PartialEq, Eq, Debug)]
+#[derive(Clone, Copy, PartialEq, Eq)]
 pub struct Digest {
     /// The rows of one glyph.
     pub singles: u64,

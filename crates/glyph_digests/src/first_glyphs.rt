@@ -15,7 +15,7 @@ use font_tables::coverage::Coverage;
 const COUNT: u32 = 256;
 
 /// Which of the first 256 glyphs are in a set. Any other glyph may be.
-#[derive(Clone, Copy, PartialEq, Eq, Debug)]
+#[derive(Clone, Copy, PartialEq, Eq)]
 pub struct FirstGlyphs {
     /// A bit for each glyph, those of 64 glyphs in a word.
     pub words: [u64; 4],
@@ -103,7 +103,7 @@ impl Summary for FirstGlyphs {
 }
 
 /// Both summaries of a set of glyphs, made in one pass.
-#[derive(Clone, Copy, Debug)]
+#[derive(Clone, Copy)]
 pub struct Summaries {
     /// Its digest.
     pub digest: Digest,

@@ -4,7 +4,7 @@ ghost use Rattle.std.specs.Prelude.{◌≡◌};
 ghost use Rattle.glyph_lists.specs.ClusterOrder.{is_any};
 
 /// The order in which the clusters of a list stand, by its cluster level.
-#[derive(Clone, Copy, PartialEq, Eq, Debug)]
+#[derive(Clone, Copy, PartialEq, Eq)]
 pub enum ClusterOrder {
     /// They never fall, or they never rise: a merge merges, and a scan goes by the clusters at the ends.
     Monotone,

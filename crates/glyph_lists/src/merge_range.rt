@@ -112,7 +112,7 @@ pub fn merge_range(
 }
 
 /// What a merge of two glyphs changes.
-#[derive(Clone, Copy, PartialEq, Eq, Debug)]
+#[derive(Clone, Copy, PartialEq, Eq)]
 pub enum PairChange {
     /// Nothing: they share a cluster.
     Nothing,

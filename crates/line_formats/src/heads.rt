@@ -7,7 +7,7 @@ use crate::writing::{write_bytes, write_number};
 use std::alloc::{AllocError, Global};
 
 /// What is printed before the answer to a line.
-#[derive(Clone, Copy, PartialEq, Eq, Debug)]
+#[derive(Clone, Copy, PartialEq, Eq)]
 pub struct Shown {
     /// The line, in a line of its own.
     pub text: bool,

@@ -11,7 +11,7 @@ use script_items::allows_any_order;
 use shaping_buffer::{hb_buffer_t, hb_glyph_info_t};
 
 /// How the clusters of a text run.
-#[derive(Clone, Copy, PartialEq, Eq, Debug)]
+#[derive(Clone, Copy, PartialEq, Eq)]
 pub(crate) enum ClusterCourse {
     /// They never fall.
     Rising,

@@ -6,9 +6,10 @@ ghost use Rattle.shaping_buffer.specs.KeepsClusters.{KeepsClusters};
 
 use font_face::Face;
 use font_functions::FontFunctions;
-use ot_layout::{Budget, would_substitute};
+use ot_layout::Budget;
 use ot_map::{LayoutPlan, Pause};
 use ot_plan::{FormPlaces, TextPlan, budget_of};
+use ot_substitution::would_substitute;
 use script_syllables::{FontForms, FormFeature};
 use shaping_buffer::hb_buffer_t;
 use std::alloc::AllocError;

@@ -60,6 +60,7 @@ fn is_in_one(bits: u32, one: u32, other: u32) -> bool
 }
 
 /// Marks as unsafe to break joined syllables of which a lookup of a stage hangs on the form, and sees which glyphs there are then.
+#[inline]
 #[tactic(auto, using(shaping_buffer::proofs::ClosedKeepsLemmas::kept))]
 pub(crate) fn keep_joined(
     buffer: &mut hb_buffer_t,

@@ -9,6 +9,7 @@ use ot_map::Pause;
 use shaping_buffer::hb_buffer_t;
 
 /// The digest of the glyphs of a buffer.
+#[inline]
 pub(crate) fn digest_of(buffer: &hb_buffer_t) -> Digest
     ensures { HasGlyphs result buffer.now.input }
 {
@@ -16,6 +17,7 @@ pub(crate) fn digest_of(buffer: &hb_buffer_t) -> Digest
 }
 
 /// Sees which glyphs there are after a lookup, if it changed some.
+#[inline]
 pub(crate) fn see_changes(buffer: &hb_buffer_t, glyphs: &mut Digest, progress: &mut Progress)
     ensures met { (progress.old.has_changed ≡ false → HasGlyphs glyphs.old buffer.now.input) → HasGlyphs glyphs.new buffer.now.input }
     ensures unchanged { progress.new.has_changed ≡ false }
@@ -30,6 +32,7 @@ pub(crate) fn see_changes(buffer: &hb_buffer_t, glyphs: &mut Digest, progress: &
 }
 
 /// Sees which glyphs there are after a pause, unless nothing was done there.
+#[inline]
 pub(crate) fn see_after(
     buffer: &hb_buffer_t,
     pause: Pause,

@@ -154,6 +154,7 @@ fn apply_stages<F: FontFunctions, W: Watch>(
 }
 
 /// The lookups of a stage, from its first place in the list of all to its end.
+#[inline]
 fn lookups_of(layout: &LayoutPlan, start: usize, end: usize) -> &[PlannedLookup]
     ensures { result.now ≡ by_stage.lookups_of layout.now.gsub_lookups.items start end }
 {
@@ -229,6 +230,7 @@ fn apply_planned(
 }
 
 /// The lookups of a font, and how one of the plan is applied.
+#[inline]
 fn substitutions_of<'a>(face: &'a Face<'a>, planned: &PlannedLookup) -> Substitutions<'a>
     ensures list { result.list.now ≡ face.now.lookups.substitutions }
     ensures gdef { result.gdef.now ≡ face.now.gdef }

@@ -101,6 +101,7 @@ fn set_many_properties(infos: &mut [hb_glyph_info_t], scratch_flags: &mut u32)
 }
 
 /// Sets the properties of a character.
+#[inline]
 fn set_own_properties(info: &mut hb_glyph_info_t, scratch_flags: &mut u32)
     ensures { properties.bare info.new ≡ properties.bare info.old }
 {
@@ -124,6 +125,7 @@ fn go_on(info: &mut hb_glyph_info_t)
 /// Whether a character that is no mark goes on with the grapheme before it (Unicode Standard Annex 29): a modifier of
 /// an emoji, the second of two regional indicators, the zero width joiner and an emoji behind it, tags, and the voiced
 /// sound marks of halfwidth Katakana.
+#[inline]
 fn continues_grapheme(infos: &[hb_glyph_info_t], i: usize) -> bool
     requires { i < length infos.now }
 {

@@ -18,7 +18,7 @@ use shaping_buffer::rb_glyph::hb_unicode_general_category_t;
 use shaping_buffer::{CharExt, hb_buffer_t, hb_glyph_info_t};
 
 /// The letters at the edges of a text, and the nearest beyond.
-#[derive(Clone, Copy, Debug)]
+#[derive(Clone, Copy)]
 struct Edges {
     /// The letter that stands last once the text is turned.
     first: JoiningType,

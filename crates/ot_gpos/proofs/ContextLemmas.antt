@@ -6,14 +6,14 @@ use Rattle.std.proofs.lemmas.Bool.{eqb-true, false≢true, not-false, or_cases}
 use Rattle.rb_glyph.specs.declared.info.hb_glyph_info_t.{hb_glyph_info_t}
 use Rattle.ot_lookups.specs.declared.lookup_list.Lookup.{Lookup}
 use Rattle.ot_lookups.specs.declared.lookup_list.LookupList.{LookupList}
-use Rattle.ot_layout.specs.Context.{context_rule}
-use Rattle.ot_layout.specs.Pattern.{IsFitBy, Pattern}
-use Rattle.ot_layout.specs.declared.context.Fit.{Fit}
+use Rattle.ot_contexts.specs.Context.{context_rule}
+use Rattle.ot_contexts.specs.Pattern.{IsFitBy, Pattern}
+use Rattle.ot_contexts.specs.declared.context.Fit.{Fit}
 use Rattle.ot_layout.specs.declared.search.ApplyContext.{ApplyContext}
 use Rattle.ot_layout.specs.declared.skipping_iterator.SkippingIterator.{SkippingIterator}
 use Rattle.shaping_buffer.specs.State.{State}
 use Rattle.ot_gpos.specs.Contexts.{Applies, AreDone, IsAround, IsDecided, IsFitDone, IsFound, IsRecordDone, ahead, record_done, target}
-use Rattle.ot_gpos.specs.Flags.{break_marked, concat_marked}
+use Rattle.ot_attachments.specs.Flags.{break_marked, concat_marked}
 use Rattle.ot_gpos.specs.Lookups.{Text, outcome, text_of}
 use Rattle.ot_gpos.specs.declared.marks.LastBase.{LastBase}
 use Rattle.ot_gpos.specs.Visit.{Visit}

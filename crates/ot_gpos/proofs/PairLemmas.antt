@@ -1,6 +1,7 @@
 -- Pairs: the next glyph, where it stands after the first, and kerning.
-use Rattle.std.proofs.Common.{◌≡◌, ℕ, ℤ, suc, ◌+◌, ◌-◌, ◌<◌, ◌≤◌, Bool, true, false, not, ◌||◌, cond, List, length, nat_eq, arith, refl, ap, pos}
-use Rattle.std.proofs.lemmas.Bool.{lt-ltb}
+use Rattle.std.proofs.Common.{◌≡◌, ℕ, ℤ, ◌+◌, ◌<◌, Bool, true, false, not, ◌||◌, cond, List, length, nat_eq, arith, refl, ap, ◌∙◌, pos}
+use Rattle.std.specs.Prelude.{Some}
+use Rattle.std.proofs.lemmas.Bool.{cond_both, lt-ltb}
 use Rattle.rb_glyph.specs.declared.info.hb_glyph_info_t.{hb_glyph_info_t}
 use Rattle.ot_lookups.specs.LookupProps.{glyph_at}
 use Rattle.ot_layout.specs.SkippingIterator.{matches, next_found, passes}
@@ -13,12 +14,15 @@ use Rattle.std.specs.Ordering.{int_eq}
 use Rattle.rb_common.specs.Direction.{is_horizontal}
 use Rattle.rb_glyph.specs.declared.position.GlyphPosition.{GlyphPosition}
 use Rattle.shaping_buffer.specs.State.{State}
+use Rattle.shaping_buffer.specs.Lending.{with_positions}
 use Rattle.ot_gpos_tables.specs.Pairs.{is_kerning, kerned, number}
 use Rattle.ot_gpos_tables.specs.Values.{across, has_effect, moved}
-use Rattle.ot_gpos.specs.Adjustments.{behind, on_positions}
-use Rattle.ot_gpos.specs.Flags.{break_marked}
-use Rattle.ot_gpos.specs.PairAdjustments.{adjusted, pair_base, pair_moved, table_of, some_place, unmoved, uses_second}
-use Rattle.ot_gpos.specs.Placing.{changed_at}
+use Rattle.ot_gpos_tables.specs.declared.pairs.PairValues.{PairValues}
+use Rattle.ot_attachments.specs.Flags.{break_marked}
+use Rattle.ot_gpos.specs.PairAdjustments.{adjusted, pair_base, pair_moved, table_of, unmoved, uses_second}
+use Rattle.ot_attachments.specs.Places.{behind}
+use Rattle.ot_attachments.specs.Placing.{changed_at, on_positions}
+use Rattle.ot_attachments.proofs.PositionsLemmas.{length_changed_at, with_positions_on}
 use Rattle.ot_gpos.specs.Visit.{Visit}
 
 pub next_is_behind : (w : SkippingIterator) (gs : List hb_glyph_info_t) (i : ℕ) → i + 1 < length gs
@@ -59,20 +63,20 @@ pub pair_moved_kerned : (visit : Visit) (second : ℕ) (advance : ℤ) (ps : Lis
 unfolding pair_moved
 pair_moved_kerned visit second advance ps kerns = rw (uses_no_second visit kerns) refl
 
--- ---- one of several places passes a test
+-- ---- what a pair does to positions that are written through a reference
 
-pub some_place_here : (test : ℕ → Bool) (from to : ℕ) → from < to → test from ≡ true → some_place test from (to - from) ≡ true
-some_place_here test from to within passes =
-    let one : to - from ≡ suc (to - from - 1) = omega arith in
-    rw (one, passes) refl
+length-pair_moved : (visit : Visit) (h : Bool) (v : PairValues) (second : ℕ) (ps : List GlyphPosition)
+    → length (pair_moved visit h v second ps) ≡ length ps
+unfolding pair_moved
+length-pair_moved visit h v second ps =
+    let first = changed_at (moved (pair_base visit) visit.instance h v.first) visit.place ps in
+    let both = changed_at (moved (pair_base visit) visit.instance h v.second) second first in
+    let same : length first ≡ length ps = length_changed_at _ visit.place ps in
+    cond_both (uses_second visit) both first (λ (l : List GlyphPosition). length l ≡ length ps)
+    (λ _. length_changed_at _ second first ∙ same) (λ _. same)
 
-pub some_place_later : (test : ℕ → Bool) (from to : ℕ) → from < to → test from ≡ false
-    → some_place test from (to - from) ≡ some_place test (from + 1) (to - (from + 1))
-some_place_later test from to within fails =
-    let one : to - from ≡ suc (to - (from + 1)) = omega arith in
-    rw (one, fails) refl
-
-pub some_place_none : (test : ℕ → Bool) (from to : ℕ) → to ≤ from → some_place test from (to - from) ≡ false
-some_place_none test from to end =
-    let none : to - from ≡ 0 = omega arith in
-    rw none refl
+pub with_positions_paired : (visit : Visit) (h : Bool) (v : PairValues) (second : ℕ) (s : State) (ps ws : List GlyphPosition)
+    → Some ps ≡ s.positions → ws ≡ pair_moved visit h v second ps
+    → with_positions s ws ≡ on_positions (pair_moved visit h v second) s
+with_positions_paired visit h v second s ps ws are is =
+    with_positions_on (pair_moved visit h v second) s ps ws are is (length-pair_moved visit h v second ps)

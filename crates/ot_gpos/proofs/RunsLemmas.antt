@@ -7,7 +7,7 @@ use Rattle.rb_glyph.specs.declared.info.hb_glyph_info_t.{hb_glyph_info_t}
 use Rattle.shaping_buffer.specs.State.{State, len}
 use Rattle.ot_lookups.specs.Lookup.{is_for}
 use Rattle.ot_lookups.specs.LookupProps.{glyph_at}
-use Rattle.ot_gpos.specs.Flags.{untouched, without_flags}
+use Rattle.ot_attachments.specs.Flags.{untouched, without_flags}
 use Rattle.ot_gpos.specs.Lookups.{Applied, Outcome, Text}
 use Rattle.ot_gpos.specs.Nested.{IsTried}
 use Rattle.ot_gpos.specs.Runs.{AreDoneBefore, IsGlyphDone, Run, place_after, run}

@@ -1,22 +1,14 @@
 -- Adjustments of single glyphs, at a glyph (OpenType, "Single adjustment").
-use Rattle.std.specs.Prelude.{ℕ, ◌+◌, ◌-◌, ◌^◌, List, Option, min}
+use Rattle.std.specs.Prelude.{ℕ, Option}
 use Rattle.std.specs.Option.{option_map, option_map_or}
 use Rattle.rb_common.specs.Direction.{is_horizontal}
-use Rattle.rb_glyph.specs.declared.position.GlyphPosition.{GlyphPosition}
 use Rattle.shaping_buffer.specs.State.{State}
 use Rattle.ot_gpos_tables.specs.Pairs.{single_values}
 use Rattle.ot_gpos_tables.specs.Values.{moved}
 use Rattle.ot_gpos_tables.specs.declared.values.ValueRecord.{ValueRecord}
-use Rattle.ot_gpos.specs.Placing.{changed_at}
+use Rattle.ot_attachments.specs.Places.{behind}
+use Rattle.ot_attachments.specs.Placing.{changed_at, on_positions}
 use Rattle.ot_gpos.specs.Visit.{Visit}
-
--- the positions of a buffer are changed
-abbrev pub on_positions : (List GlyphPosition → List GlyphPosition) → State → State
-on_positions f s = record s { positions = option_map f s.positions }
-
--- the place behind a glyph, where a lookup goes on
-abbrev pub behind : ℕ → ℕ
-behind place = min (place + 1) (2 ^ 64 - 1)
 
 -- the record that a subtable has for its glyph
 abbrev pub record_of : Visit → Option ValueRecord

@@ -18,10 +18,10 @@ use Rattle.ot_layout.specs.declared.skipping_iterator.SkippingIterator.{Skipping
 use Rattle.ot_gpos_tables.specs.Anchors.{anchor, anchor_in, between, ligature_matrix, mark_anchor, mark_class, placed}
 use Rattle.ot_gpos_tables.specs.declared.anchors.Anchor.{Anchor}
 use Rattle.ot_gpos_tables.specs.declared.instance.Instance.{Instance}
-use Rattle.ot_gpos.specs.Adjustments.{behind, on_positions}
 use Rattle.ot_gpos.specs.Bases.{counts_at}
-use Rattle.ot_gpos.specs.Flags.{attachments_marked, break_marked, concat_marked}
-use Rattle.ot_gpos.specs.Placing.{changed_at, mark_put}
+use Rattle.ot_attachments.specs.Flags.{attachments_marked, break_marked, concat_marked}
+use Rattle.ot_attachments.specs.Places.{behind}
+use Rattle.ot_attachments.specs.Placing.{changed_at, mark_put, on_positions}
 use Rattle.ot_gpos.specs.declared.attachment.Attachment.{Attachment}
 use Rattle.ot_gpos.specs.declared.attachment.AttachmentFound.{AttachmentFound}
 use Rattle.ot_gpos.specs.declared.attachment.AttachmentFound.TheVariants.{Nothing, NoBase, Attached}

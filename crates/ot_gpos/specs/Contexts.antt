@@ -7,15 +7,15 @@ use Rattle.rb_glyph.specs.declared.info.hb_glyph_info_t.{hb_glyph_info_t}
 use Rattle.shaping_buffer.specs.State.{State}
 use Rattle.ot_lookups.specs.declared.lookup_list.Lookup.{Lookup}
 use Rattle.ot_lookups.specs.declared.lookup_list.LookupList.{LookupList}
-use Rattle.ot_layout.specs.Context.{context_rule, record_at}
-use Rattle.ot_layout.specs.Pattern.{IsFitBy, Pattern}
+use Rattle.ot_contexts.specs.Context.{context_rule, record_at}
+use Rattle.ot_contexts.specs.Pattern.{IsFitBy, Pattern}
 use Rattle.ot_layout.specs.SkippingIterator.{over_context}
-use Rattle.ot_layout.specs.declared.context.Fit.{Fit}
-use Rattle.ot_layout.specs.declared.context.SequenceLookupRecord.{SequenceLookupRecord}
+use Rattle.ot_contexts.specs.declared.context.Fit.{Fit}
+use Rattle.ot_contexts.specs.declared.context.SequenceLookupRecord.{SequenceLookupRecord}
 use Rattle.ot_layout.specs.declared.search.ApplyContext.{ApplyContext}
 use Rattle.ot_layout.specs.declared.search.Reach.{Reach}
 use Rattle.ot_layout.specs.declared.skipping_iterator.SkippingIterator.{SkippingIterator}
-use Rattle.ot_gpos.specs.Flags.{break_marked, concat_marked}
+use Rattle.ot_attachments.specs.Flags.{break_marked, concat_marked}
 use Rattle.ot_gpos.specs.Lookups.{Applied, Outcome, Text, outcome}
 use Rattle.ot_gpos.specs.Visit.{Visit}
 

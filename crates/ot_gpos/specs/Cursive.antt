@@ -20,11 +20,11 @@ use Rattle.ot_layout.specs.declared.skipping_iterator.Found.{Found}
 use Rattle.ot_layout.specs.declared.skipping_iterator.Found.TheVariants.{At, Other, End}
 use Rattle.ot_gpos_tables.specs.Anchors.{between, placed}
 use Rattle.ot_gpos_tables.specs.declared.anchors.Anchor.{Anchor}
-use Rattle.ot_gpos.specs.Adjustments.{behind, on_positions}
 use Rattle.ot_gpos.specs.Attachments.{anchor_of, table_of}
-use Rattle.ot_gpos.specs.Chains.{chain_of, chain_reversed, position_at, with_chain}
-use Rattle.ot_gpos.specs.Flags.{attachments_marked, break_marked, concat_marked}
-use Rattle.ot_gpos.specs.Placing.{attached, changed_at}
+use Rattle.ot_attachments.specs.Chains.{chain_of, chain_reversed, position_at, with_chain}
+use Rattle.ot_attachments.specs.Flags.{attachments_marked, break_marked, concat_marked}
+use Rattle.ot_attachments.specs.Places.{behind}
+use Rattle.ot_attachments.specs.Placing.{attached, changed_at, on_positions}
 use Rattle.ot_gpos.specs.declared.cursive.Join.{Join}
 use Rattle.ot_gpos.specs.declared.cursive.JoinFound.{JoinFound}
 use Rattle.ot_gpos.specs.declared.cursive.JoinFound.TheVariants.{Nothing, NoExit, Joined}

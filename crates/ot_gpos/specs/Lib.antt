@@ -1,17 +1,11 @@
 pub mod Adjustments
 pub mod Attachments
 pub mod Bases
-pub mod Chains
 pub mod Contexts
 pub mod Cursive
-pub mod Flags
-pub mod Kerning
 pub mod Lookups
 pub mod Nested
-pub mod Offsets
 pub mod PairAdjustments
-pub mod Placing
 pub mod Runs
-pub mod Spans
 pub mod Subtables
 pub mod Visit

@@ -1,5 +1,5 @@
 -- Adjustments of pairs, at their first glyph (OpenType, "Pair adjustment").
-use Rattle.std.specs.Prelude.{ℕ, zero, suc, ◌-◌, ◌==◌, ◌&&◌, ◌||◌, ◌+◌, Bool, false, not, List, [], Option, None, Some, length}
+use Rattle.std.specs.Prelude.{ℕ, ◌-◌, ◌==◌, ◌&&◌, ◌||◌, Bool, not, List, [], Option, None, Some, length}
 use Rattle.std.specs.Prelude.{if◌then◌else◌, nat_eq, nat_lt, min, unwrap_or, option_and_then}
 use Rattle.std.specs.Option.{option_map_or}
 use Rattle.rb_common.specs.Direction.{is_horizontal}
@@ -15,9 +15,9 @@ use Rattle.ot_layout.specs.declared.skipping_iterator.Found.TheVariants.{At, Oth
 use Rattle.ot_gpos_tables.specs.Pairs.{classed_pair, listed_pair, number, pair_set}
 use Rattle.ot_gpos_tables.specs.Values.{has_effect, moved}
 use Rattle.ot_gpos_tables.specs.declared.pairs.PairValues.{PairValues}
-use Rattle.ot_gpos.specs.Adjustments.{behind, on_positions}
-use Rattle.ot_gpos.specs.Flags.{break_marked, concat_marked}
-use Rattle.ot_gpos.specs.Placing.{changed_at}
+use Rattle.ot_attachments.specs.Flags.{break_marked, concat_marked}
+use Rattle.ot_attachments.specs.Places.{behind, some_place}
+use Rattle.ot_attachments.specs.Placing.{changed_at, on_positions}
 use Rattle.ot_gpos.specs.Visit.{Visit}
 
 -- the bytes of the subtable
@@ -62,11 +62,6 @@ pair_moved visit is_horizontal v second ps =
     let first_moved = changed_at (moved (pair_base visit) visit.instance is_horizontal v.first) visit.place ps in
     if uses_second visit
     then changed_at (moved (pair_base visit) visit.instance is_horizontal v.second) second first_moved else first_moved
-
--- whether one of so many places from a place on passes a test
-abbrev pub some_place : (ℕ → Bool) → ℕ → ℕ → Bool
-some_place test from zero = false
-some_place test from (suc count) = test from || some_place test (from + 1) count
 
 -- whether the lookup may do something at a glyph between those of a pair that ends before a place
 abbrev pub passes_over_first : Visit → ℕ → List hb_glyph_info_t → Bool

@@ -1,18 +1,18 @@
 //! Marks that are attached to a base, a ligature or another mark: the step that all three have in common (HarfBuzz, `MarkArray`).
 
 ghost use Rattle.std.specs.Prelude.{◌≡◌, false, IsSome};
-ghost use Rattle.ot_gpos.specs.Flags.{KeepsBits, untouched};
+ghost use Rattle.ot_attachments.specs.Flags.{KeepsBits, untouched};
 ghost use Rattle.ot_gpos_tables.specs.Anchors.{anchor};
 ghost use Rattle.ot_gpos.specs.Attachments as marks;
 ghost use Rattle.ot_gpos.specs.Attachments.{HasNoPixels};
-ghost use Rattle.ot_gpos.specs.Placing.{changed_at, mark_put};
+ghost use Rattle.ot_attachments.specs.Placing.{changed_at, mark_put};
 ghost use Rattle.ot_gpos.specs.Visit.{visit_of};
 
-use crate::chains::{ATTACH_TYPE_MARK, attach};
-use crate::flags::{mark_attached, mark_break, mark_concat};
 use crate::turn::Turn;
 use font_tables::bytes::{table_at_16, u16_at};
 use font_tables::scale::Scale;
+use ot_attachments::chains::{ATTACH_TYPE_MARK, attach};
+use ot_attachments::flags::{mark_attached, mark_break, mark_concat};
 use ot_gpos_tables::anchors::{Anchor, anchor_in, mark_anchor, mark_class, named_point};
 use ot_gpos_tables::contour_points::ContourPoints;
 use ot_gpos_tables::instance::Instance;
@@ -20,7 +20,7 @@ use rb_glyph::{GlyphPosition, hb_glyph_info_t};
 use shaping_buffer::hb_buffer_t;
 
 /// What a subtable finds at a mark.
-#[derive(Clone, Copy, Debug)]
+#[derive(Clone, Copy)]
 pub(crate) enum AttachmentFound {
     /// It is not for the mark, or has no anchor for it.
     Nothing,
@@ -31,7 +31,7 @@ pub(crate) enum AttachmentFound {
 }
 
 /// An attachment of a mark.
-#[derive(Clone, Copy, Debug)]
+#[derive(Clone, Copy)]
 pub(crate) struct Attachment {
     /// The place of the glyph to which the mark is attached.
     base: usize,
@@ -143,7 +143,7 @@ fn from_own(scale: &Scale, base: usize, own: &Anchor, anchor: &Anchor) -> Attach
 }
 
 /// Attaches the mark, and says where the iterator goes on; `None` where the subtable does not attach it.
-#[tactic(auto, using(crate::proofs::PositionsLemmas::with_positions_changed, crate::proofs::FlagLemmas::untouched_with_positions), unfolding(crate::specs::Attachments::mark_placed))]
+#[tactic(auto, using(ot_attachments::proofs::PositionsLemmas::with_positions_changed, ot_attachments::proofs::FlagLemmas::untouched_with_positions), unfolding(crate::specs::Attachments::mark_placed))]
 pub(crate) fn attach_mark(
     buffer: &mut hb_buffer_t,
     place: usize,
@@ -175,7 +175,7 @@ pub(crate) fn attach_mark(
 }
 
 /// Moves the mark at a place from where its base stands, and attaches it there.
-#[tactic(auto, unfolding(crate::specs::Placing::changed_at))]
+#[tactic(auto, unfolding(ot_attachments::specs::Placing::changed_at))]
 fn move_mark(positions: &mut [GlyphPosition], place: usize, attachment: &Attachment)
     ensures { positions.new ≡ changed_at
         (mark_put place attachment.now.base attachment.now.x attachment.now.y) place positions.old }

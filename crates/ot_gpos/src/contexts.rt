@@ -8,7 +8,7 @@ ghost use Rattle.ot_layout.specs.Budget.{IsNotMore};
 ghost use Rattle.ot_lookups.specs.NextAsked.{IsNextOf};
 
 use crate::turn::Turn;
-use ot_layout::context::{Fit, fitting_rule};
+use ot_contexts::context::{Fit, fitting_rule};
 use ot_layout::search::{ApplyContext, Reach, Search};
 use ot_layout::skipping_iterator::SkippingIterator;
 use ot_lookups::lookup_list::LookupList;

@@ -2,18 +2,18 @@
 
 ghost use Rattle.std.specs.Prelude.{◌≡◌, ◌<◌, false, length, option_copied, IsSome};
 ghost use Rattle.ot_gpos.specs.Attachments.{HasNoPixels};
-ghost use Rattle.ot_gpos.specs.Chains.{chain_of, position_at};
+ghost use Rattle.ot_attachments.specs.Chains.{chain_of, position_at};
 ghost use Rattle.ot_gpos.specs.Cursive as cursive;
-ghost use Rattle.ot_gpos.specs.Placing.{changed_at};
-ghost use Rattle.ot_gpos.specs.Flags.{KeepsBits, untouched};
+ghost use Rattle.ot_attachments.specs.Placing.{changed_at};
+ghost use Rattle.ot_attachments.specs.Flags.{KeepsBits, untouched};
 ghost use Rattle.ot_gpos.specs.Visit.{visit_of};
 
 use crate::attachment::anchor_at;
-use crate::chains::{ATTACH_TYPE_CURSIVE, attach, reverse_chain};
-use crate::flags::{mark_attached, mark_break, mark_concat};
 use crate::turn::Turn;
 use font_tables::bytes::{table_at_16, u16_at};
 use font_tables::scale::Scale;
+use ot_attachments::chains::{ATTACH_TYPE_CURSIVE, attach, reverse_chain};
+use ot_attachments::flags::{mark_attached, mark_break, mark_concat};
 use ot_gpos_tables::anchors::Anchor;
 use ot_gpos_tables::contour_points::ContourPoints;
 use ot_layout::matcher::Matcher;
@@ -27,7 +27,7 @@ use shaping_buffer::hb_buffer_t;
 const RIGHT_TO_LEFT: u16 = 0x0001;
 
 /// What a subtable finds at a glyph.
-#[derive(Clone, Copy, Debug)]
+#[derive(Clone, Copy)]
 enum JoinFound {
     /// The glyph has no entry.
     Nothing,
@@ -38,7 +38,7 @@ enum JoinFound {
 }
 
 /// A join of two glyphs.
-#[derive(Clone, Copy, Debug)]
+#[derive(Clone, Copy)]
 struct Join {
     /// The place of the glyph with the exit.
     before: usize,
@@ -73,7 +73,7 @@ pub(crate) fn place_cursive<P: ContourPoints>(
 }
 
 /// Joins the glyph as the subtable finds it, and says where the iterator goes on.
-#[tactic(auto, using(crate::proofs::CursiveLemmas::with_positions_joined, crate::proofs::FlagLemmas::untouched_with_positions), unfolding(crate::specs::Cursive::cursive_placed))]
+#[tactic(auto, using(crate::proofs::CursiveLemmas::with_positions_joined, ot_attachments::proofs::FlagLemmas::untouched_with_positions), unfolding(crate::specs::Cursive::cursive_placed))]
 fn join_found(buffer: &mut hb_buffer_t, turn: &Turn, found: &JoinFound) -> Option<usize>
     requires closed { buffer.old.have_output ≡ false }
     requires placed { IsSome buffer.old.positions }
@@ -179,7 +179,7 @@ fn join_glyphs(positions: &mut [GlyphPosition], join: &Join, direction: Directio
 }
 
 /// Makes the exit and the entry meet along the line.
-#[tactic(auto, unfolding(crate::specs::Cursive::met_along, crate::specs::Placing::changed_at))]
+#[tactic(auto, unfolding(crate::specs::Cursive::met_along, ot_attachments::specs::Placing::changed_at))]
 fn meet_along(positions: &mut [GlyphPosition], join: &Join, direction: Direction, scale: &Scale)
     ensures { positions.new ≡ cursive.met_along join.now direction scale.now positions.old }
 {
@@ -188,7 +188,7 @@ fn meet_along(positions: &mut [GlyphPosition], join: &Join, direction: Direction
 }
 
 /// Ends or begins the advance of the glyph at a place at its exit.
-#[tactic(auto, unfolding(crate::specs::Placing::changed_at))]
+#[tactic(auto, unfolding(ot_attachments::specs::Placing::changed_at))]
 fn leave_at(
     positions: &mut [GlyphPosition],
     place: usize,
@@ -204,7 +204,7 @@ fn leave_at(
 }
 
 /// Begins or ends the advance of the glyph at a place at its entry.
-#[tactic(auto, unfolding(crate::specs::Placing::changed_at))]
+#[tactic(auto, unfolding(ot_attachments::specs::Placing::changed_at))]
 fn enter_at(
     positions: &mut [GlyphPosition],
     place: usize,
@@ -326,7 +326,7 @@ fn hang_on(
 }
 
 /// Attaches the glyph at a place to its parent, and says by which chain.
-#[tactic(auto, unfolding(crate::specs::Placing::changed_at))]
+#[tactic(auto, unfolding(ot_attachments::specs::Placing::changed_at))]
 fn hang_at(
     positions: &mut [GlyphPosition],
     direction: Direction,
@@ -364,7 +364,7 @@ fn hang(
 }
 
 /// Parts the glyph at a place from the one that now hangs on it by this chain.
-#[tactic(auto, unfolding(crate::specs::Placing::changed_at))]
+#[tactic(auto, unfolding(ot_attachments::specs::Placing::changed_at))]
 fn part_at(positions: &mut [GlyphPosition], place: usize, chain: i16, direction: Direction)
     ensures { positions.new ≡ changed_at (cursive.parted_from direction chain) place positions.old }
 {

@@ -6,7 +6,7 @@ ghost use Rattle.ot_layout.specs.Budget.{IsNotMore};
 ghost use Rattle.glyph_digests.specs.Covered.{covered_index};
 ghost use Rattle.ot_gpos.specs.Attachments.{HasNoPixels};
 ghost use Rattle.ot_gpos.specs.Contexts.{AreDone, IsContextDone, named, record_done, target};
-ghost use Rattle.ot_gpos.specs.Flags.{KeepsBits, untouched};
+ghost use Rattle.ot_attachments.specs.Flags.{KeepsBits, untouched};
 ghost use Rattle.ot_gpos.specs.Lookups.{applied, is_simple, outcome, text_of};
 ghost use Rattle.ot_gpos.specs.Nested as others;
 ghost use Rattle.ot_gpos.specs.Nested.{IsOneTried, IsTried, IsVisited};
@@ -20,13 +20,13 @@ ghost use Rattle.shaping_buffer.specs.KeepsClusters.{KeepsClusters};
 
 use crate::contexts::fit_at;
 use crate::cursive::place_cursive;
-use crate::flags::{mark_break, mark_concat};
 use crate::marks::{LastBase, place_on_base, place_on_ligature, place_on_mark};
 use crate::pairs::{place_pair, place_single};
 use crate::turn::{Setting, Turn};
+use ot_attachments::flags::{mark_break, mark_concat};
+use ot_contexts::context::Fit;
 use ot_gpos_tables::contour_points::ContourPoints;
 use ot_layout::budget::{PASSED_A_STEP, SUBTABLE_STEPS};
-use ot_layout::context::Fit;
 use ot_layout::search::{MatchPositions, Search};
 use ot_layout::skipping_iterator::{LookupOptions, SkippingIterator};
 use ot_lookups::lookup_list::Lookup;
@@ -56,7 +56,7 @@ struct Task<'a, P> {
 
 /// Positions the glyphs by the lookup of this index, where the buffer's glyphs have one of the options' bits. A budget that is spent
 /// ends the iterator, and `buffer.shaping_failed` says so.
-#[tactic(auto, using(crate::proofs::FlagLemmas::keeps_by))]
+#[tactic(auto, using(ot_attachments::proofs::FlagLemmas::keeps_by))]
 pub fn position<P: ContourPoints>(
     buffer: &mut hb_buffer_t,
     setting: &Setting<P>,
@@ -431,7 +431,7 @@ fn fail_if_spent(buffer: &mut hb_buffer_t, search: &Search)
 }
 
 /// Says that the text could not be shaped as the font asks.
-#[tactic(auto, unfolding(crate::specs::Flags::untouched))]
+#[tactic(auto, unfolding(ot_attachments::specs::Flags::untouched))]
 fn fail(buffer: &mut hb_buffer_t)
     requires closed { buffer.old.have_output ≡ false }
     requires placed { IsSome buffer.old.positions }

@@ -5,7 +5,7 @@ ghost use Rattle.ot_lookups.specs.LookupProps.{glyph_at};
 ghost use Rattle.ot_gpos.specs.Attachments as marks;
 ghost use Rattle.ot_gpos.specs.Attachments.{HasNoPixels, nothing_sought};
 ghost use Rattle.ot_gpos.specs.Bases.{counts, counts_at};
-ghost use Rattle.ot_gpos.specs.Flags.{KeepsBits, untouched};
+ghost use Rattle.ot_attachments.specs.Flags.{KeepsBits, untouched};
 ghost use Rattle.ot_gpos.specs.Visit.{visit_of};
 
 use crate::attachment::{AttachmentFound, attach_mark, attachment_by};
@@ -27,7 +27,7 @@ const IGNORED_CLASSES: u16 = 0x000E;
 const IGNORE_MARKS: u16 = 0x0008;
 
 /// The last base that was found, so that many marks after one base are not gone over again for each of them.
-#[derive(Clone, Copy, Debug)]
+#[derive(Clone, Copy)]
 pub(crate) struct LastBase {
     /// Its place.
     base: Option<usize>,

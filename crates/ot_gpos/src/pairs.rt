@@ -10,14 +10,14 @@ ghost use Rattle.ot_layout.specs.declared.skipping_iterator.Found.TheVariants.{A
 ghost use Rattle.ot_gpos_tables.specs.Pairs.{is_kerning, kerned};
 ghost use Rattle.ot_gpos_tables.specs.Values.{moved};
 ghost use Rattle.ot_gpos.specs.Adjustments as adjustments;
-ghost use Rattle.ot_gpos.specs.Adjustments.{behind};
-ghost use Rattle.ot_gpos.specs.Flags.{KeepsBits, concat_marked, untouched};
+ghost use Rattle.ot_attachments.specs.Flags.{KeepsBits, concat_marked, untouched};
 ghost use Rattle.ot_gpos.specs.PairAdjustments as pairs;
-ghost use Rattle.ot_gpos.specs.Placing.{changed_at};
+ghost use Rattle.ot_attachments.specs.Places.{behind};
+ghost use Rattle.ot_attachments.specs.Placing.{changed_at};
 ghost use Rattle.ot_gpos.specs.Visit.{visit_of};
 
-use crate::flags::{mark_break, mark_concat};
 use crate::turn::Turn;
+use ot_attachments::flags::{mark_break, mark_concat};
 use ot_gpos_tables::instance::Instance;
 use ot_gpos_tables::pairs::{
     PairValues, classed_advance, classed_pair, is_kerning, listed_advance, listed_pair,
@@ -30,7 +30,7 @@ use rb_glyph::{GlyphPosition, hb_glyph_info_t};
 use shaping_buffer::hb_buffer_t;
 
 /// Moves the glyph, and says where the iterator goes on; `None` where the subtable is not for it.
-#[tactic(auto, using(crate::proofs::PositionsLemmas::with_positions_changed, crate::proofs::FlagLemmas::untouched_with_positions))]
+#[tactic(auto, using(ot_attachments::proofs::PositionsLemmas::with_positions_changed, ot_attachments::proofs::FlagLemmas::untouched_with_positions))]
 pub(crate) fn place_single(buffer: &mut hb_buffer_t, turn: &Turn) -> Option<usize>
     requires closed { buffer.old.have_output ≡ false }
     requires placed { IsSome buffer.old.positions }
@@ -56,7 +56,7 @@ pub(crate) fn place_single(buffer: &mut hb_buffer_t, turn: &Turn) -> Option<usiz
 }
 
 /// Moves the glyph at a place.
-#[tactic(auto, unfolding(crate::specs::Placing::changed_at))]
+#[tactic(auto, unfolding(ot_attachments::specs::Placing::changed_at))]
 fn move_at(
     positions: &mut [GlyphPosition],
     place: usize,
@@ -195,7 +195,7 @@ fn advance_of(turn: &Turn, glyphs: (u32, u32)) -> Option<i16>
 
 /// Kerns the pair of the glyph and the one at a place.
 #[inline]
-#[tactic(auto, using(crate::proofs::PairLemmas::adjusted_kerned, crate::proofs::PositionsLemmas::with_positions_paired, crate::proofs::FlagLemmas::untouched_with_positions))]
+#[tactic(auto, using(crate::proofs::PairLemmas::adjusted_kerned, crate::proofs::PairLemmas::with_positions_paired, ot_attachments::proofs::FlagLemmas::untouched_with_positions))]
 fn kern_pair(buffer: &mut hb_buffer_t, turn: &Turn, second: usize, advance: i16)
     requires closed { buffer.old.have_output ≡ false }
     requires placed { IsSome buffer.old.positions }
@@ -248,7 +248,7 @@ fn mark_passed(buffer: &mut hb_buffer_t, turn: &Turn, end: usize)
 }
 
 /// Whether the lookup may do something at a glyph within a pair, which ends before a place.
-#[tactic(auto, using(crate::proofs::PairLemmas::some_place_here, crate::proofs::PairLemmas::some_place_later, crate::proofs::PairLemmas::some_place_none))]
+#[tactic(auto, using(ot_attachments::proofs::PlacesLemmas::some_place_here, ot_attachments::proofs::PlacesLemmas::some_place_later, ot_attachments::proofs::PlacesLemmas::some_place_none))]
 fn passes_over_first(glyphs: &[hb_glyph_info_t], turn: &Turn, end: usize) -> bool
     ensures { result ≡ pairs.passes_over_first (visit_of turn.now) end glyphs.now }
 {
@@ -263,7 +263,7 @@ fn passes_over_first(glyphs: &[hb_glyph_info_t], turn: &Turn, end: usize) -> boo
 
 /// Moves the advance of the glyph, which is kerned with the one at a place.
 #[inline]
-#[tactic(auto, using(crate::proofs::PairLemmas::pair_moved_kerned), unfolding(crate::specs::Placing::changed_at))]
+#[tactic(auto, using(crate::proofs::PairLemmas::pair_moved_kerned), unfolding(ot_attachments::specs::Placing::changed_at))]
 fn advance_at(positions: &mut [GlyphPosition], turn: &Turn, _second: usize, advance: i16)
     requires kerns { is_kerning (pairs.table_of (visit_of turn.now)) ≡ true }
     ensures { positions.new ≡ pairs.pair_moved (visit_of turn.now) true (kerned advance) _second positions.old }
@@ -382,7 +382,7 @@ fn move_pair(
 }
 
 /// Moves the glyphs of a pair, where its records may move them.
-#[tactic(auto, using(crate::proofs::PositionsLemmas::with_positions_paired, crate::proofs::FlagLemmas::untouched_with_positions))]
+#[tactic(auto, using(crate::proofs::PairLemmas::with_positions_paired, ot_attachments::proofs::FlagLemmas::untouched_with_positions))]
 fn move_or_not(
     buffer: &mut hb_buffer_t,
     turn: &Turn,

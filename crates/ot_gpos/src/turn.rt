@@ -17,7 +17,7 @@ pub struct Setting<'a, P> {
 }
 
 /// A subtable at a glyph.
-#[derive(Clone, Copy, Debug)]
+#[derive(Clone, Copy)]
 pub(crate) struct Turn<'a> {
     /// The lookup that the subtable is of.
     pub lookup: &'a Lookup<'a>,

@@ -15,7 +15,7 @@ use font_tables::bytes::{i16_at, table_at_16, u16_at};
 use font_tables::scale::Scale;
 
 /// A point of a glyph.
-#[derive(Clone, Copy, Debug)]
+#[derive(Clone, Copy)]
 pub struct Anchor {
     /// To the right, in font units.
     pub x: i16,

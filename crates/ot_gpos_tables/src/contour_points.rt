@@ -1,7 +1,7 @@
 //! Points of outlines, at which anchors of format 2 stand.
 
 /// Where a point of a glyph's outline is, at the size at which the font is used.
-#[derive(Clone, Copy, Debug)]
+#[derive(Clone, Copy)]
 pub struct ContourPoint {
     /// To the right.
     pub x: i32,
@@ -16,7 +16,7 @@ pub trait ContourPoints {
 }
 
 /// A font that knows no points, as HarfBuzz's own functions know none.
-#[derive(Clone, Copy, Debug)]
+#[derive(Clone, Copy)]
 pub struct NoPoints;
 
 impl ContourPoints for NoPoints {

@@ -9,7 +9,7 @@ use font_variations::Deltas;
 use font_variations::rounding::{float, rounded};
 
 /// A font at a size, and at a place in its variations.
-#[derive(Clone, Copy, Debug)]
+#[derive(Clone, Copy)]
 pub struct Instance<'a> {
     /// The size.
     pub scale: Scale,

@@ -18,7 +18,7 @@ use font_tables::bytes::{i16_at, part, tail, u8_at, u16_at, u32_at};
 use font_tables::rows::rows_within;
 
 /// What the values of a subtable are for.
-#[derive(Clone, Copy, Debug)]
+#[derive(Clone, Copy)]
 pub struct KernCoverage {
     /// They are for horizontal lines, and else for vertical ones.
     pub is_horizontal: bool,
@@ -29,7 +29,7 @@ pub struct KernCoverage {
 }
 
 /// A subtable.
-#[derive(Clone, Copy, Debug)]
+#[derive(Clone, Copy)]
 pub struct KernSubtable<'a> {
     /// Its bytes, with its header; those of the last subtable go up to the end of the table.
     pub table: &'a [u8],
@@ -44,7 +44,7 @@ pub struct KernSubtable<'a> {
 }
 
 /// A table `kern`.
-#[derive(Clone, Copy, Debug)]
+#[derive(Clone, Copy)]
 pub struct KernTable<'a> {
     /// The bytes of the table.
     pub table: &'a [u8],
@@ -170,7 +170,7 @@ impl<'a> KernTable<'a> {
 }
 
 /// What is asked of the subtables.
-#[derive(Clone, Copy, PartialEq, Eq, Debug)]
+#[derive(Clone, Copy, PartialEq, Eq)]
 enum Property {
     /// It is a state machine.
     Machine,

@@ -17,7 +17,7 @@ use font_tables::rows::{Keys16, rows_within};
 const ADVANCE_ACROSS: u16 = 4;
 
 /// By how much the glyphs of a pair are moved.
-#[derive(Clone, Copy, Debug)]
+#[derive(Clone, Copy)]
 pub struct PairValues {
     /// The first.
     pub first: ValueRecord,

@@ -5,7 +5,7 @@ use font_tables::bytes::u32_at;
 use std::cmp::Ordering;
 
 /// Rows of `size` bytes each, of which the first has its key, a number of 32 bits, at the byte `start`.
-#[derive(Clone, Copy, Debug)]
+#[derive(Clone, Copy)]
 pub struct Keys32<'a> {
     /// The table.
     pub table: &'a [u8],

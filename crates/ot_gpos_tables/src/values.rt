@@ -12,7 +12,7 @@ use font_tables::bytes::u16_at;
 use rb_glyph::GlyphPosition;
 
 /// By how much a glyph is moved, and its advance changed, in font units. What a record does not name is 0.
-#[derive(Clone, Copy, Debug)]
+#[derive(Clone, Copy)]
 pub struct ValueRecord {
     /// To the right.
     pub x_placement: i16,

@@ -6,7 +6,7 @@ use Rattle.std.proofs.lemmas.List.{get_or_at, take-append-drop}
 use Rattle.std.specs.Prelude.{nat_le, slice_index_or, ◌&&◌, ◌||◌}
 use Rattle.std.specs.declared.alloc.AllocError.{AllocError}
 use Rattle.rb_glyph.specs.declared.info.hb_glyph_info_t.{hb_glyph_info_t}
-use Rattle.ot_layout.specs.GlyphTable.{listed, listed_glyph}
+use Rattle.ot_substitution.specs.GlyphTable.{listed, listed_glyph}
 use Rattle.glyph_lists.specs.Clusters.{zero_glyph}
 use Rattle.glyph_lists.specs.Parts.{on_part, part}
 use Rattle.glyph_lists.specs.Scans.{part_scan, scan_least, two_part_scan}

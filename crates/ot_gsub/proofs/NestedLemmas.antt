@@ -4,9 +4,9 @@ use Rattle.std.proofs.lemmas.Bool.{cond-true, false≢true, lt-ltb}
 use Rattle.std.proofs.lemmas.Option.{slice_get-get_or, slice_get_within}
 use Rattle.std.specs.Prelude.{slice_get, slice_index, nat_lt, ◌&&◌, min}
 use Rattle.std.specs.declared.alloc.AllocError.{AllocError}
-use Rattle.ot_layout.specs.Context.{record_at}
-use Rattle.ot_layout.specs.declared.context.Fit.{Fit}
-use Rattle.ot_layout.specs.declared.context.SequenceLookupRecord.{SequenceLookupRecord}
+use Rattle.ot_contexts.specs.Context.{record_at}
+use Rattle.ot_contexts.specs.declared.context.Fit.{Fit}
+use Rattle.ot_contexts.specs.declared.context.SequenceLookupRecord.{SequenceLookupRecord}
 use Rattle.shaping_buffer.specs.State.{State, len, lookahead_len}
 use Rattle.shaping_buffer.specs.Step.{Outcome, move_to}
 use Rattle.ot_gsub.specs.Edits.{Gives, GivesOrWants}

@@ -13,7 +13,7 @@ use Rattle.ot_lookups.specs.Lookup.{is_for}
 use Rattle.ot_lookups.specs.LookupProps.{passes_over, share}
 use Rattle.ot_lookups.specs.declared.lookup_list.Lookup.{Lookup}
 use Rattle.ot_layout.specs.declared.search.Reach.{Reach}
-use Rattle.ot_layout.specs.declared.substitution.Edit.{Edit}
+use Rattle.ot_substitution.specs.declared.substitution.Edit.{Edit}
 use Rattle.shaping_buffer.specs.State.{State, len}
 use Rattle.ot_gsub.specs.Nested.{now_of}
 use Rattle.ot_gsub.specs.Runs.{IsPlaceDone, made_if, mark_around, takes}

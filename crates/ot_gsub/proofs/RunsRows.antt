@@ -5,8 +5,8 @@ use Rattle.rb_glyph.specs.declared.info.hb_glyph_info_t.{hb_glyph_info_t}
 use Rattle.glyph_lists.specs.Clusters.{zero_glyph}
 use Rattle.ot_lookups.specs.Lookup.{is_for}
 use Rattle.ot_lookups.specs.declared.lookup_list.Lookup.{Lookup}
-use Rattle.ot_layout.specs.declared.substitution.Edit.{Edit}
-use Rattle.ot_layout.specs.declared.substitution.Edit.TheVariants.{Replace}
+use Rattle.ot_substitution.specs.declared.substitution.Edit.{Edit}
+use Rattle.ot_substitution.specs.declared.substitution.Edit.TheVariants.{Replace}
 use Rattle.shaping_buffer.specs.State.{State, empty_state}
 use Rattle.shaping_buffer.specs.Step.{next_glyph}
 use Rattle.ot_gsub.specs.Edits.{made_in_place, replace}

@@ -10,15 +10,15 @@ use Rattle.std.specs.declared.alloc.AllocError.{AllocError}
 use Rattle.rb_glyph.specs.declared.flag_sets.TheConstants.BufferFlags.{PRODUCE_UNSAFE_TO_CONCAT}
 use Rattle.rb_glyph.specs.declared.info.hb_glyph_info_t.{hb_glyph_info_t}
 use Rattle.font_tables.specs.declared.coverage.Coverage.{Coverage}
-use Rattle.ot_layout.specs.FirstEdit.{IsFirstEdit}
-use Rattle.ot_layout.specs.Substitution.{cursor_glyph}
+use Rattle.ot_substitution.specs.FirstEdit.{IsFirstEdit}
+use Rattle.ot_substitution.specs.Substitution.{cursor_glyph}
 use Rattle.ot_lookups.specs.LookupProps.{glyph_at}
 use Rattle.ot_lookups.specs.declared.lookup_list.Lookup.{Lookup}
 use Rattle.ot_layout.specs.declared.search.Reach.{Reach}
 use Rattle.ot_layout.specs.declared.search.ApplyContext.{ApplyContext}
 use Rattle.ot_lookups.specs.declared.subtable.Subtable.{Subtable}
-use Rattle.ot_layout.specs.declared.substitution.Edit.{Edit}
-use Rattle.ot_layout.specs.declared.substitution.Edit.TheVariants.{Replace}
+use Rattle.ot_substitution.specs.declared.substitution.Edit.{Edit}
+use Rattle.ot_substitution.specs.declared.substitution.Edit.TheVariants.{Replace}
 use Rattle.ot_layout.specs.declared.skipping_iterator.LookupOptions.{LookupOptions}
 use Rattle.shaping_buffer.specs.State.{State, len}
 use Rattle.shaping_buffer.specs.ClusterStep.{asks}

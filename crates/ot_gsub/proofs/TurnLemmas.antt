@@ -4,12 +4,12 @@ use Rattle.std.proofs.lemmas.Bool.{false≢true}
 use Rattle.std.specs.Prelude.{nat_lt, slice_get}
 use Rattle.std.specs.Result.{IsErr}
 use Rattle.std.specs.declared.alloc.AllocError.{AllocError}
-use Rattle.ot_layout.specs.declared.glyph_table.Glyphs.{Glyphs}
+use Rattle.ot_substitution.specs.declared.glyph_table.Glyphs.{Glyphs}
 use Rattle.ot_lookups.specs.declared.lookup_list.Lookup.{Lookup}
 use Rattle.ot_layout.specs.declared.search.Reach.{Reach}
 use Rattle.ot_layout.specs.declared.search.Search.{Search}
-use Rattle.ot_layout.specs.declared.substitution.Edit.{Edit}
-use Rattle.ot_layout.specs.declared.substitution.Edit.TheVariants.{Choose}
+use Rattle.ot_substitution.specs.declared.substitution.Edit.{Edit}
+use Rattle.ot_substitution.specs.declared.substitution.Edit.TheVariants.{Choose}
 use Rattle.shaping_buffer.specs.State.{State}
 use Rattle.ot_gsub.specs.Edits.{Gives, GivesOrWants, choose, next_random}
 use Rattle.ot_gsub.specs.Nested.{Applies, Now, now_of}

@@ -5,11 +5,11 @@ use Rattle.std.specs.declared.alloc.AllocError.{AllocError}
 use Rattle.rb_glyph.specs.Fields.{with_field}
 use Rattle.rb_glyph.specs.declared.info.hb_glyph_info_t.{hb_glyph_info_t}
 use Rattle.glyph_lists.specs.Clusters.{zero_glyph}
-use Rattle.ot_layout.specs.GlyphTable.{listed, listed_glyph}
+use Rattle.ot_substitution.specs.GlyphTable.{listed, listed_glyph}
 use Rattle.ot_layout.specs.LigatureParts.{ligature_id, mark_properties}
 use Rattle.ot_lookups.specs.LookupProps.{props, share}
-use Rattle.ot_layout.specs.declared.substitution.Edit.{Edit}
-use Rattle.ot_layout.specs.declared.substitution.Edit.TheVariants.{Replace, Choose, Multiply, Ligate, Apply, ReplaceInPlace}
+use Rattle.ot_substitution.specs.declared.substitution.Edit.{Edit}
+use Rattle.ot_substitution.specs.declared.substitution.Edit.TheVariants.{Replace, Choose, Multiply, Ligate, Apply, ReplaceInPlace}
 use Rattle.shaping_buffer.specs.State.{State, len}
 use Rattle.shaping_buffer.specs.ClusterStep.{delete_glyph, unsafe_to_break_from_outbuffer}
 use Rattle.shaping_buffer.specs.Step.{Outcome, output_glyph, replace_glyph, skip_glyph, unlimited, with_id}

@@ -6,7 +6,7 @@ use Rattle.rb_glyph.specs.Fields.{field, with_field}
 use Rattle.rb_glyph.specs.declared.info.hb_glyph_info_t.{hb_glyph_info_t}
 use Rattle.ot_layout.specs.LigatureParts.{component_count, ligature_component, ligature_id, ligature_properties, mark_properties}
 use Rattle.ot_lookups.specs.LookupProps.{glyph_at, props, share}
-use Rattle.ot_layout.specs.declared.substitution.Ligation.{Ligation}
+use Rattle.ot_substitution.specs.declared.substitution.Ligation.{Ligation}
 use Rattle.shaping_buffer.specs.State.{State, len}
 use Rattle.shaping_buffer.specs.ClusterStep.{merge_clusters}
 use Rattle.shaping_buffer.specs.Limits.{allocate_lig_id}

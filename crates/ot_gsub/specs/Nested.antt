@@ -1,9 +1,9 @@
 -- The lookups that a rule applies to the glyphs of its match (OpenType, "Sequence Lookup Record"; HarfBuzz, `apply_lookup`).
 use Rattle.std.specs.Prelude.{◌≡◌, ℕ, zero, suc, ◌+◌, ◌-◌, ◌^◌, ◌&&◌, Bool, true, false, List, [], ◌∷◌, length, min, nat_lt, slice_index}
 use Rattle.std.specs.Prelude.{Option, None, Some, if◌then◌else◌}
-use Rattle.ot_layout.specs.Context.{record_at}
-use Rattle.ot_layout.specs.declared.context.Fit.{Fit}
-use Rattle.ot_layout.specs.declared.context.SequenceLookupRecord.{SequenceLookupRecord}
+use Rattle.ot_contexts.specs.Context.{record_at}
+use Rattle.ot_contexts.specs.declared.context.Fit.{Fit}
+use Rattle.ot_contexts.specs.declared.context.SequenceLookupRecord.{SequenceLookupRecord}
 use Rattle.shaping_buffer.specs.State.{State}
 use Rattle.shaping_buffer.specs.ClusterStep.{unsafe_to_break_from_outbuffer}
 use Rattle.shaping_buffer.specs.Step.{move_to}

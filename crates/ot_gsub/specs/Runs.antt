@@ -8,7 +8,7 @@ use Rattle.ot_lookups.specs.Lookup.{is_for}
 use Rattle.ot_lookups.specs.LookupProps.{glyph_at}
 use Rattle.ot_lookups.specs.declared.lookup_list.Lookup.{Lookup}
 use Rattle.ot_layout.specs.declared.search.Reach.{Reach}
-use Rattle.ot_layout.specs.declared.substitution.Edit.{Edit}
+use Rattle.ot_substitution.specs.declared.substitution.Edit.{Edit}
 use Rattle.shaping_buffer.specs.State.{State, len}
 use Rattle.shaping_buffer.specs.ClusterStep.{unsafe_to_concat_from_outbuffer}
 use Rattle.shaping_buffer.specs.Step.{Meets, clear_output, next_glyph, sync}

@@ -6,7 +6,7 @@ use Rattle.std.specs.declared.alloc.AllocError.{AllocError}
 use Rattle.rb_glyph.specs.declared.flag_sets.TheConstants.BufferFlags.{PRODUCE_UNSAFE_TO_CONCAT}
 use Rattle.rb_glyph.specs.declared.info.hb_glyph_info_t.{hb_glyph_info_t}
 use Rattle.ot_lookups.specs.Lookup.{is_for}
-use Rattle.ot_layout.specs.Substitution.{single}
+use Rattle.ot_substitution.specs.Substitution.{single}
 use Rattle.glyph_digests.specs.Covered.{covered_index}
 use Rattle.ot_lookups.specs.LookupProps.{glyph_at}
 use Rattle.ot_lookups.specs.declared.lookup_list.Lookup.{Lookup}

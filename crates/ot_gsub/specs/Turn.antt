@@ -3,15 +3,15 @@ use Rattle.std.specs.Prelude.{◌≡◌, ℕ, zero, suc, ◌+◌, ◌-◌, ◌^�
 use Rattle.std.specs.Prelude.{Option, None, Some, Result, Ok, Err, ⊤, if◌then◌else◌}
 use Rattle.std.specs.declared.alloc.AllocError.{AllocError}
 use Rattle.rb_glyph.specs.Fields.{field}
-use Rattle.ot_layout.specs.FirstEdit.{IsFirstEdit}
+use Rattle.ot_substitution.specs.FirstEdit.{IsFirstEdit}
 use Rattle.ot_lookups.specs.Subtables.{subtables_of}
 use Rattle.ot_layout.specs.SkippingIterator.{over_context, over_input}
 use Rattle.ot_lookups.specs.declared.lookup_list.Lookup.{Lookup}
 use Rattle.ot_layout.specs.declared.search.Reach.{Reach}
 use Rattle.ot_layout.specs.declared.search.ApplyContext.{ApplyContext}
 use Rattle.ot_lookups.specs.declared.subtable.Subtable.{Subtable}
-use Rattle.ot_layout.specs.declared.substitution.Edit.{Edit}
-use Rattle.ot_layout.specs.declared.substitution.Edit.TheVariants.{Replace, Choose, Multiply, Ligate, Apply, ReplaceInPlace}
+use Rattle.ot_substitution.specs.declared.substitution.Edit.{Edit}
+use Rattle.ot_substitution.specs.declared.substitution.Edit.TheVariants.{Replace, Choose, Multiply, Ligate, Apply, ReplaceInPlace}
 use Rattle.ot_layout.specs.declared.skipping_iterator.LookupOptions.{LookupOptions}
 use Rattle.shaping_buffer.specs.State.{State, len, lookahead_len}
 use Rattle.shaping_buffer.specs.ClusterStep.{unsafe_to_concat, unsafe_to_concat_from_outbuffer}

@@ -17,7 +17,7 @@ use ot_layout::MatchPositions;
 use ot_layout::ligature_parts::{
     component_count, ligature_component, ligature_id, ligature_properties, mark_properties,
 };
-use ot_layout::substitution::Ligation;
+use ot_substitution::substitution::Ligation;
 use rb_glyph::hb_glyph_info_t;
 use shaping_buffer::hb_buffer_t;
 use std::alloc::AllocError;
@@ -32,7 +32,7 @@ const NON_SPACING_MARK: u16 = 12;
 const OTHER_LETTER: u16 = 7;
 
 /// What glyphs make up a ligature.
-#[derive(Clone, Copy, PartialEq, Eq, Debug)]
+#[derive(Clone, Copy, PartialEq, Eq)]
 enum Made {
     /// A base and marks: it stays a base, to which other marks may be attached.
     Base,
@@ -65,7 +65,7 @@ impl Made {
 }
 
 /// The components of a ligature that were taken in so far.
-#[derive(Clone, Copy, Debug)]
+#[derive(Clone, Copy)]
 struct Components {
     /// What makes up the ligature.
     made: Made,

@@ -76,7 +76,7 @@ fn all_moved_up(places: &[usize], by: usize) -> MatchPositions
 }
 
 /// The glyphs of a match, by their places in both sides as one list.
-#[derive(Drop, Debug)]
+#[derive(Drop)]
 pub(crate) struct Matched {
     /// The places of the glyphs.
     places: MatchPositions,

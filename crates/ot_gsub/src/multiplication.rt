@@ -1,7 +1,7 @@
 //! Edits that put one glyph or several in the place of one.
 
 ghost use Rattle.std.specs.Prelude.{◌≡◌, ◌<◌, ◌==◌, ◌%◌, true, false, not, length, IfOk, Ok};
-ghost use Rattle.ot_layout.specs.GlyphTable.{listed};
+ghost use Rattle.ot_substitution.specs.GlyphTable.{listed};
 ghost use Rattle.ot_layout.specs.LigatureParts as parts;
 ghost use Rattle.ot_gsub.specs.Edits as edits;
 ghost use Rattle.ot_gsub.specs.Edits.{GivesOrWants, put_parts};
@@ -14,8 +14,8 @@ use crate::properties::{BASE, LIGATURE, Way, substituted_props};
 use crate::substitution::Progress;
 use crate::writing::{drop_behind, gives_cluster, glyph_ahead, hand_on, write_properties};
 use font_tables::gdef::Gdef;
-use ot_layout::glyph_table::Glyphs;
 use ot_layout::ligature_parts::{ligature_id, mark_properties};
+use ot_substitution::glyph_table::Glyphs;
 use rb_glyph::hb_glyph_info_t;
 use shaping_buffer::hb_buffer_t;
 use std::alloc::AllocError;

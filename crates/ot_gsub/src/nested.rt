@@ -19,10 +19,10 @@ use crate::match_positions::Matched;
 use crate::multiplication::{choose, multiply, replace};
 use crate::substitution::{Progress, Substitutions};
 use crate::writing::{fail, glyph_ahead};
-use ot_layout::context::{Fit, SequenceLookupRecord};
-use ot_layout::substitution::{Edit, edit_at};
+use ot_contexts::context::{Fit, SequenceLookupRecord};
 use ot_layout::{ApplyContext, LookupOptions, Reach, SkippingIterator};
 use ot_lookups::Lookup;
+use ot_substitution::substitution::{Edit, edit_at};
 use shaping_buffer::hb_buffer_t;
 use std::alloc::AllocError;
 
@@ -30,7 +30,7 @@ use std::alloc::AllocError;
 pub(crate) const MAX_NESTING_LEVEL: u32 = 64;
 
 /// What became of a lookup at the cursor.
-#[derive(Clone, Copy, PartialEq, Eq, Debug)]
+#[derive(Clone, Copy, PartialEq, Eq)]
 pub(crate) enum Step {
     /// It was applied, and the cursor is after what it took.
     Applied,
@@ -281,7 +281,7 @@ fn both_len(buffer: &hb_buffer_t) -> usize
 }
 
 /// What became of one of the lookups of a rule.
-#[derive(Clone, Copy, PartialEq, Eq, Debug)]
+#[derive(Clone, Copy, PartialEq, Eq)]
 enum Turn {
     /// The next one follows.
     On,

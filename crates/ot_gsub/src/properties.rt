@@ -28,7 +28,7 @@ const MULTIPLIED: u16 = 0x0040;
 const PRESERVED: u16 = 0x0070;
 
 /// How a glyph comes into the place of another one.
-#[derive(Clone, Copy, PartialEq, Eq, Debug)]
+#[derive(Clone, Copy, PartialEq, Eq)]
 pub(crate) enum Way {
     /// One for one.
     Replaced,

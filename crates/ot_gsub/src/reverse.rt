@@ -16,9 +16,9 @@ ghost use Rattle.shaping_buffer.specs.KeepsClusters.{KeepsClusters};
 use crate::properties::{Way, substituted_props};
 use crate::substitution::{Progress, Substitutions};
 use font_tables::gdef::Gdef;
-use ot_layout::substitution::{Edit, edit_at};
 use ot_layout::{ApplyContext, LookupOptions, Reach, SkippingIterator};
 use ot_lookups::Lookup;
+use ot_substitution::substitution::{Edit, edit_at};
 use rb_glyph::hb_glyph_info_t;
 use shaping_buffer::hb_buffer_t;
 

@@ -26,7 +26,7 @@ use std::alloc::AllocError;
 const REVERSE: u16 = 8;
 
 /// The lookups, and how one of them is applied.
-#[derive(Clone, Copy, Debug)]
+#[derive(Clone, Copy)]
 pub struct Substitutions<'a> {
     /// The lookups of `GSUB`.
     pub list: &'a LookupList<'a>,
@@ -37,7 +37,7 @@ pub struct Substitutions<'a> {
 }
 
 /// What is carried from lookup to lookup while a text is shaped.
-#[derive(Drop, Debug)]
+#[derive(Drop)]
 pub struct Progress {
     /// What the lookups may still cost, and what the last search found.
     pub search: Search,

@@ -1,14 +1,4 @@
-pub mod Asked
+pub mod ApplyContext
 pub mod Budget
-pub mod Context
-pub mod FirstEdit
-pub mod GlyphTable
 pub mod LigatureParts
-pub mod Match
-pub mod Neighbours
-pub mod Pattern
-pub mod Reverse
-pub mod Rule
-pub mod RuleSet
-pub mod Substitution
 pub mod SkippingIterator

@@ -1,5 +1,5 @@
 -- Where a walk over the glyphs that a lookup does not pass over ends.
-use Rattle.std.specs.Prelude.{ℕ, ◌+◌, ◌-◌, ◌^◌, ◌==◌, ◌&&◌, ◌||◌, [], ◌∷◌, Bool, true, false, not, List, zero, suc, length, drop, is_some, nat_lt, if◌then◌else◌, bit_and, ⊤, ◌<◌}
+use Rattle.std.specs.Prelude.{ℕ, ◌+◌, ◌-◌, ◌^◌, ◌==◌, ◌&&◌, ◌||◌, [], ◌∷◌, Bool, true, false, not, List, Option, Some, None, zero, suc, length, drop, is_some, nat_lt, if◌then◌else◌, bit_and, ⊤, ◌<◌}
 use Rattle.rb_glyph.specs.declared.info.hb_glyph_info_t.{hb_glyph_info_t}
 use Rattle.rb_glyph.specs.Fields.{field}
 use Rattle.font_tables.specs.ClassDefinition.{class_of}
@@ -129,3 +129,9 @@ abbrev pub IsBefore : Found → ℕ → Type 0
 IsBefore (At before) i = before < i
 IsBefore (Other before) i = before < i
 IsBefore End i = ⊤
+
+-- the place of an answer, where the glyph there is what is asked for
+abbrev pub place_of : Found → Option ℕ
+place_of (At place) = Some place
+place_of (Other place) = None
+place_of End = None

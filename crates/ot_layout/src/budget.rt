@@ -16,7 +16,7 @@ const STEPS_A_TEXT: u64 = 0x4_0000;
 const STEPS_A_GLYPH: u64 = 0x4000;
 
 /// What is left to spend. It never rises.
-#[derive(Clone, Copy, Debug)]
+#[derive(Clone, Copy)]
 pub struct Budget {
     /// How many more lookups may be applied by others, as HarfBuzz counts them in `max_ops`.
     pub nested: u32,

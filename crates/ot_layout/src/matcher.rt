@@ -9,7 +9,7 @@ use ot_lookups::lookup_props::covered_index;
 use rb_common::GlyphId;
 
 /// What is asked of a glyph.
-#[derive(Clone, Copy, Debug)]
+#[derive(Clone, Copy)]
 pub enum Matcher<'a> {
     /// Nothing, and a glyph that may be passed over is passed over.
     Shown,

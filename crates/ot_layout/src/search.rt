@@ -1,7 +1,7 @@
 //! What a search for a match is given, and what it leaves behind.
 
 ghost use Rattle.std.specs.Prelude.{◌≡◌, ◌≤◌, min, max};
-ghost use Rattle.ot_layout.specs.Rule.{context_iterator, input_iterator};
+ghost use Rattle.ot_layout.specs.ApplyContext.{context_iterator, input_iterator};
 
 use crate::budget::Budget;
 use crate::skipping_iterator::SkippingIterator;
@@ -12,7 +12,7 @@ use rb_glyph::hb_glyph_info_t;
 pub type MatchPositions = ArrayVec<usize, 64>;
 
 /// The glyphs on both sides of the cursor.
-#[derive(Clone, Copy, Debug)]
+#[derive(Clone, Copy)]
 pub struct ApplyContext<'a> {
     /// What stands before the cursor: what was put out, or in a pass in place the glyphs before it.
     pub out: &'a [hb_glyph_info_t],
@@ -52,7 +52,7 @@ impl<'a> ApplyContext<'a> {
 }
 
 /// How far glyphs were looked at: their change may change the result.
-#[derive(Clone, Copy, PartialEq, Eq, Debug)]
+#[derive(Clone, Copy, PartialEq, Eq)]
 pub struct Reach {
     /// The first glyph before the cursor, as its place in `out`.
     pub from: usize,
@@ -81,7 +81,7 @@ impl Reach {
 }
 
 /// What searches share: what they may cost, and what the last one found.
-#[derive(Drop, Debug)]
+#[derive(Drop)]
 pub struct Search {
     /// What is left to spend.
     pub budget: Budget,

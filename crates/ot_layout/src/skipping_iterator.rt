@@ -32,7 +32,7 @@ const ZWNJ: u16 = 0x0200;
 const SUBSTITUTED: u16 = 0x0010;
 
 /// How the lookup of a feature is applied.
-#[derive(Clone, Copy, Debug)]
+#[derive(Clone, Copy)]
 pub struct LookupOptions {
     /// The feature's bits: the lookup is for glyphs whose mask has one of them.
     pub mask: u32,
@@ -47,7 +47,7 @@ pub struct LookupOptions {
 }
 
 /// What a walk does at a glyph.
-#[derive(Clone, Copy, PartialEq, Eq, Debug)]
+#[derive(Clone, Copy, PartialEq, Eq)]
 pub enum Skip {
     /// The glyph counts.
     No,
@@ -58,7 +58,7 @@ pub enum Skip {
 }
 
 /// Where a walk ends.
-#[derive(Clone, Copy, PartialEq, Eq, Debug)]
+#[derive(Clone, Copy, PartialEq, Eq)]
 pub enum Found {
     /// At the glyph of this place, which is what is asked for.
     At(usize),
@@ -69,7 +69,7 @@ pub enum Found {
 }
 
 /// An iterator over glyphs.
-#[derive(Clone, Copy, Debug)]
+#[derive(Clone, Copy)]
 pub struct SkippingIterator<'a> {
     /// What is passed over by the lookup's flag.
     pub lookup_props: LookupProps<'a>,
@@ -137,6 +137,7 @@ impl<'a> SkippingIterator<'a> {
 
     /// Whether a glyph with these properties is invisible, and of a kind that this iterator may pass over. One that was
     /// substituted is not invisible.
+    #[inline]
     #[tactic(auto, unfolding(crate::specs::SkippingIterator::may_ignore))]
     fn may_ignore(&self, unicode: u16, glyph: u16) -> bool
         ensures { result ≡ may_ignore self.now unicode glyph }
@@ -205,6 +206,7 @@ impl<'a> SkippingIterator<'a> {
     }
 
     /// The answer of a walk that stays at a place.
+    #[inline]
     fn found_at(&self, matcher: &Matcher, glyphs: &[hb_glyph_info_t], place: usize) -> Found
         requires { place < length glyphs.now }
         ensures { result ≡ found_at self.now matcher.now glyphs.now place }
@@ -217,6 +219,7 @@ impl<'a> SkippingIterator<'a> {
     }
 
     /// The first place from this one on whose glyph is not passed over, or the number of glyphs.
+    #[inline]
     #[tactic(auto, using(crate::proofs::SkippingIteratorLemmas::walk_steps))]
     fn first_kept(&self, matcher: &Matcher, glyphs: &[hb_glyph_info_t], start: usize) -> usize
         requires { start ≤ length glyphs.now }
@@ -233,6 +236,7 @@ impl<'a> SkippingIterator<'a> {
 
     /// Where one comes to going back from a place over the glyphs that are passed over: after one that is not, or to the
     /// start.
+    #[inline]
     #[tactic(auto, using(crate::proofs::SkippingIteratorLemmas::walk_steps))]
     fn kept_before(&self, matcher: &Matcher, glyphs: &[hb_glyph_info_t], place: usize) -> usize
         requires { place ≤ length glyphs.now }

@@ -19,7 +19,7 @@ const MOST: usize = 128;
 const GOLDEN_RATIO: usize = 0x9E37_79B9_7F4A_7C15;
 
 /// A coverage, with both summaries of its glyphs.
-#[derive(Clone, Copy, Debug)]
+#[derive(Clone, Copy)]
 pub(crate) struct Summed<'a> {
     /// The coverage.
     pub(crate) coverage: Coverage<'a>,
@@ -70,7 +70,7 @@ pub(crate) fn quick_coverage(table: &[u8]) -> Coverage<'_> {
 }
 
 /// A coverage that was read.
-#[derive(Clone, Copy, Debug)]
+#[derive(Clone, Copy)]
 pub(crate) struct Known<'a> {
     /// How many bytes the table of lookups has from its place on.
     len: usize,

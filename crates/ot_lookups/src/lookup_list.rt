@@ -28,7 +28,7 @@ pub const SUBSTITUTION_EXTENSION: u16 = 7;
 pub const POSITIONING_EXTENSION: u16 = 9;
 
 /// A lookup.
-#[derive(Clone, Copy, Debug)]
+#[derive(Clone, Copy)]
 pub struct Lookup<'a> {
     /// The kind of its subtables. Where they are extensions, each subtable has the kind after it.
     pub lookup_type: u16,
@@ -80,7 +80,7 @@ impl<'a> Lookup<'a> {
 /// them, and the lookups of a font that share more have no subtables. A coverage or a table of classes with many
 /// rows that do not rise names no glyph, since it would have to be looked through for each. A subtable is left out where its
 /// type has no such format, and all are where the extensions of a lookup are of several types, as in HarfBuzz.
-#[derive(Drop, Debug)]
+#[derive(Drop)]
 pub struct LookupList<'a> {
     /// The bytes of the table.
     pub table: &'a [u8],

@@ -22,7 +22,7 @@ const USE_MARK_FILTERING_SET: u16 = 0x0010;
 const MARK_ATTACHMENT_CLASS: u16 = 0xFF00;
 
 /// The glyphs that a lookup passes over.
-#[derive(Clone, Copy, Debug)]
+#[derive(Clone, Copy)]
 pub struct LookupProps<'a> {
     /// The lookup's flag.
     pub flags: u16,

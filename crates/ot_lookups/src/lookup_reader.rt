@@ -36,7 +36,7 @@ const LIGATURES: u16 = 4;
 const USE_MARK_FILTERING_SET: u16 = 0x0010;
 
 /// Reads lookups, one after the other.
-#[derive(Drop, Debug)]
+#[derive(Drop)]
 pub(crate) struct LookupReader<'a> {
     /// The subtables that were read.
     pub(crate) subtables: Vec<Subtable<'a>>,

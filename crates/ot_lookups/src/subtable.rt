@@ -18,7 +18,7 @@ use glyph_digests::first_glyphs::FirstGlyphs;
 pub const MAX_CONTEXT_LENGTH: usize = 64;
 
 /// A subtable of a lookup.
-#[derive(Clone, Copy, Debug)]
+#[derive(Clone, Copy)]
 pub struct Subtable<'a> {
     /// Its kind, that of an extension being the one after it.
     pub lookup_type: u16,
@@ -62,7 +62,7 @@ impl Subtable<'_> {
 }
 
 /// What a context by coverages asks of the glyph after the one at the cursor.
-#[derive(Clone, Copy, Debug)]
+#[derive(Clone, Copy)]
 pub struct NextAsked<'a> {
     /// The glyphs that fit there.
     pub coverage: Coverage<'a>,
@@ -102,7 +102,7 @@ fn next_digest(coverage: &Coverage) -> Digest
 }
 
 /// What the tables of a subtable are called in its layout.
-#[derive(Clone, Copy, PartialEq, Eq, Debug)]
+#[derive(Clone, Copy, PartialEq, Eq)]
 pub enum Form {
     /// A coverage at the byte 2, and nothing else that is parsed.
     Plain,

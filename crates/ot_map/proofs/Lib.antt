@@ -11,6 +11,8 @@
 pub mod MaskLemmas
 pub mod AllocationLemmas
 pub mod OrderLemmas
+pub mod AskedLemmas
+pub mod AskedRows
 pub mod MapLemmas
 pub mod LookupLemmas
 pub mod MergedLemmas

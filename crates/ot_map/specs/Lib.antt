@@ -1,5 +1,6 @@
 pub mod Tables
 pub mod Choice
+pub mod Chosen
 pub mod Masks
 pub mod Allocation
 pub mod AllocationSteps
@@ -7,6 +8,8 @@ pub mod Order
 pub mod Plan
 pub mod Requests
 pub mod Pauses
+pub mod Asked
+pub mod CommonFeatures
 pub mod Stages
 pub mod Features
 pub mod FeaturesFound

@@ -19,7 +19,7 @@ pub const GLOBAL_MASK: u32 = 0x8000_0000;
 pub const FIRST_SHIFT: u32 = 4;
 
 /// Neighbouring bits of a mask, which hold the value of a feature.
-#[derive(Clone, Copy, PartialEq, Eq, Debug)]
+#[derive(Clone, Copy, PartialEq, Eq)]
 pub struct FeatureBits {
     /// The lowest bit.
     pub shift: u32,

@@ -23,7 +23,7 @@ use rb_common::Tag;
 use std::alloc::{AllocError, Global};
 
 /// One of the tables `GSUB` and `GPOS`, with what is chosen of it for a text.
-#[derive(Clone, Copy, Debug)]
+#[derive(Clone, Copy)]
 pub struct ChosenTable<'a> {
     /// The lists of the table.
     pub lists: LayoutTable<'a>,
@@ -110,7 +110,7 @@ impl<'a> ChosenTable<'a> {
 }
 
 /// The features of a text, and the pauses between them.
-#[derive(Debug, Drop)]
+#[derive(Drop)]
 pub struct PlanBuilder<'a> {
     /// What is chosen of the table `GSUB`.
     pub gsub: ChosenTable<'a>,

@@ -11,7 +11,7 @@ use font_tables::rows::rows_within;
 use rb_common::{Tag, TagExt};
 
 /// The script of a table by which a text is shaped.
-#[derive(Clone, Copy, Debug)]
+#[derive(Clone, Copy)]
 pub struct ChosenScript<'a> {
     /// The script's table; empty where there is none.
     pub table: &'a [u8],
@@ -22,7 +22,7 @@ pub struct ChosenScript<'a> {
 }
 
 /// A record, and the tag that it has.
-#[derive(Clone, Copy, Debug)]
+#[derive(Clone, Copy)]
 struct Found {
     tag: Tag,
     row: usize,

@@ -1,6 +1,8 @@
 //! The features that every text asks for: HarfBuzz's `hb_ot_shape_collect_features`.
 
-ghost use Rattle.ot_map.specs.Pauses.{HasSameTables};
+ghost use Rattle.std.specs.Prelude.{◌≡◌, ◌++◌, map, IfOk};
+ghost use Rattle.ot_map.specs.Asked.{Asks, enabled, named};
+ghost use Rattle.ot_map.specs.CommonFeatures.{chosen_features, common_features, direction_features, first_features, horizontal_features, is_whole, last_features, user_features};
 
 use crate::bits::MAX_VALUE;
 use crate::builder::PlanBuilder;
@@ -23,80 +25,131 @@ pub(crate) fn add_first_features(
     builder: &mut PlanBuilder,
     direction: Direction,
 ) -> Result<(), AllocError>
-    ensures { HasSameTables builder.old builder.new }
+    ensures { IfOk result (λ _. Asks (first_features direction) builder.old builder.new) }
 {
     builder.enable_feature(Tag::from_bytes(b"rvrn"), FeatureFlags::NONE)?;
     builder.add_gsub_pause(Pause::Nothing)?;
+    add_direction_features(builder, direction)?;
+    add_chosen_features(builder)?;
+    Ok(())
+}
+
+/// Asks for forms of a direction.
+fn add_direction_features(builder: &mut PlanBuilder, direction: Direction) -> Result<(), AllocError>
+    ensures { IfOk result (λ _. Asks (direction_features direction) builder.old builder.new) }
+{
     match direction {
         Direction::LeftToRight => {
-            builder.enable_feature(Tag::from_bytes(b"ltra"), FeatureFlags::NONE)?;
-            builder.enable_feature(Tag::from_bytes(b"ltrm"), FeatureFlags::NONE)?;
+            enable_all(builder, &[b"ltra", b"ltrm"], FeatureFlags::NONE)?;
+            Ok(())
         }
         Direction::RightToLeft => {
             builder.enable_feature(Tag::from_bytes(b"rtla"), FeatureFlags::NONE)?;
             builder.add_feature(Tag::from_bytes(b"rtlm"), FeatureFlags::NONE, 1)?;
+            Ok(())
         }
-        _ => {}
+        _ => Ok(()),
     }
-    for tag in [b"frac", b"numr", b"dnom"] {
-        builder.add_feature(Tag::from_bytes(tag), FeatureFlags::NONE, 1)?;
-    }
+}
+
+/// Asks for fractions, for alternates at random, and for the features of HarfBuzz's name.
+fn add_chosen_features(builder: &mut PlanBuilder) -> Result<(), AllocError>
+    ensures { IfOk result (λ _. Asks chosen_features builder.old builder.new) }
+{
+    builder.add_feature(Tag::from_bytes(b"frac"), FeatureFlags::NONE, 1)?;
+    builder.add_feature(Tag::from_bytes(b"numr"), FeatureFlags::NONE, 1)?;
+    builder.add_feature(Tag::from_bytes(b"dnom"), FeatureFlags::NONE, 1)?;
     let at_random = FeatureFlags {
         is_global: true,
         random: true,
         ..FeatureFlags::NONE
     };
     builder.add_feature(Tag::from_bytes(b"rand"), at_random, MAX_VALUE)?;
-    builder.enable_feature(Tag::from_bytes(b"Harf"), FeatureFlags::NONE)?;
-    builder.enable_feature(Tag::from_bytes(b"HARF"), FeatureFlags::NONE)
+    enable_all(builder, &[b"Harf", b"HARF"], FeatureFlags::NONE)?;
+    Ok(())
 }
 
 /// Asks for the features that come after those of a script's shaper.
 pub(crate) fn add_last_features(
     builder: &mut PlanBuilder,
     direction: Direction,
-) -> Result<(), AllocError> {
-    for tag in [
-        b"Buzz", b"BUZZ", b"abvm", b"blwm", b"ccmp", b"locl", b"rlig",
-    ] {
-        builder.enable_feature(Tag::from_bytes(tag), FeatureFlags::NONE)?;
-    }
-    builder.enable_feature(Tag::from_bytes(b"mark"), MANUAL_JOINERS)?;
-    builder.enable_feature(Tag::from_bytes(b"mkmk"), MANUAL_JOINERS)?;
+) -> Result<(), AllocError>
+    ensures { IfOk result (λ _. Asks (last_features direction) builder.old builder.new) }
+{
+    add_common(builder)?;
     if direction.is_horizontal() {
-        add_horizontal_features(builder)
+        add_horizontal_features(builder)?;
+        Ok(())
     } else {
         let searched = FeatureFlags {
             global_search: true,
             ..FeatureFlags::NONE
         };
-        builder.enable_feature(Tag::from_bytes(b"vert"), searched)
+        enable_all(builder, &[b"vert"], searched)?;
+        Ok(())
     }
 }
 
+/// Asks for the features of all lines.
+fn add_common(builder: &mut PlanBuilder) -> Result<(), AllocError>
+    ensures { IfOk result (λ _. Asks common_features builder.old builder.new) }
+{
+    let names = [
+        b"Buzz", b"BUZZ", b"abvm", b"blwm", b"ccmp", b"locl", b"rlig",
+    ];
+    enable_all(builder, &names, FeatureFlags::NONE)?;
+    enable_all(builder, &[b"mark", b"mkmk"], MANUAL_JOINERS)?;
+    Ok(())
+}
+
 /// Asks for the features of horizontal lines.
-fn add_horizontal_features(builder: &mut PlanBuilder) -> Result<(), AllocError> {
-    for tag in [b"calt", b"clig", b"curs", b"dist", b"liga", b"rclt"] {
-        builder.enable_feature(Tag::from_bytes(tag), FeatureFlags::NONE)?;
-    }
+fn add_horizontal_features(builder: &mut PlanBuilder) -> Result<(), AllocError>
+    ensures { IfOk result (λ _. Asks horizontal_features builder.old builder.new) }
+{
+    let names = [b"calt", b"clig", b"curs", b"dist", b"liga", b"rclt"];
+    enable_all(builder, &names, FeatureFlags::NONE)?;
     let with_fallback = FeatureFlags {
         has_fallback: true,
         ..FeatureFlags::NONE
     };
-    builder.enable_feature(Tag::from_bytes(b"kern"), with_fallback)
+    enable_all(builder, &[b"kern"], with_fallback)?;
+    Ok(())
+}
+
+/// Asks for features of every glyph.
+fn enable_all(
+    builder: &mut PlanBuilder,
+    names: &[&[u8; 4]],
+    flags: FeatureFlags,
+) -> Result<(), AllocError>
+    ensures { IfOk result (λ _. Asks (map (λ name. enabled flags (named name.now)) names.now) builder.old builder.new) }
+{
+    for name in names {
+        builder.enable_feature(Tag::from_bytes(name), flags)?;
+    }
+    Ok(())
 }
 
 /// Asks for the features of a user.
 pub(crate) fn add_user_features(
     builder: &mut PlanBuilder,
     features: &[Feature],
-) -> Result<(), AllocError> {
+) -> Result<(), AllocError>
+    ensures { IfOk result (λ _. Asks (user_features features.now) builder.old builder.new) }
+{
     for feature in features {
         let flags = FeatureFlags {
-            is_global: feature.is_global(),
+            is_global: is_whole(feature),
             ..FeatureFlags::NONE
         };
         builder.add_feature(feature.tag, flags, feature.value)?;
     }
     Ok(())
+}
+
+/// Whether a feature is one of the whole text.
+fn is_whole(feature: &Feature) -> bool
+    ensures { result ≡ is_whole feature.now }
+{
+    feature.is_global()
 }

@@ -13,7 +13,7 @@ use rb_common::Tag;
 use std::ops::Range;
 
 /// What a shaper does between two stages of substitution.
-#[derive(Clone, Copy, PartialEq, Eq, Debug)]
+#[derive(Clone, Copy, PartialEq, Eq)]
 pub enum Pause {
     /// Nothing: the lookups of the next stage are only applied after all those before.
     Nothing,
@@ -36,7 +36,7 @@ pub enum Pause {
 }
 
 /// A feature of the plan, with the bits of its value.
-#[derive(Clone, Copy, PartialEq, Eq, Debug)]
+#[derive(Clone, Copy, PartialEq, Eq)]
 pub struct PlannedFeature {
     /// The feature's tag.
     pub tag: Tag,
@@ -58,7 +58,7 @@ pub struct PlannedFeature {
 }
 
 /// A lookup of the plan.
-#[derive(Clone, Copy, PartialEq, Eq, Debug)]
+#[derive(Clone, Copy, PartialEq, Eq)]
 pub struct PlannedLookup {
     /// The number of the lookup in its table.
     pub index: u16,
@@ -90,7 +90,7 @@ impl PlannedLookup {
 }
 
 /// A stage of substitution.
-#[derive(Clone, Copy, PartialEq, Eq, Debug)]
+#[derive(Clone, Copy, PartialEq, Eq)]
 pub struct Stage {
     /// The place behind its last lookup, in the list of all.
     pub end: usize,
@@ -99,7 +99,7 @@ pub struct Stage {
 }
 
 /// Which lookups of a font are applied, in which order, and to which glyphs.
-#[derive(Debug, Drop)]
+#[derive(Drop)]
 pub struct LayoutPlan {
     /// The mask of a glyph that no feature of a range reaches.
     pub global_mask: u32,

@@ -6,7 +6,7 @@ ghost use Rattle.ot_map.specs.Requests.{requested, merged, with_index};
 use rb_common::Tag;
 
 /// How a feature is applied: HarfBuzz's `hb_ot_map_feature_flags_t`.
-#[derive(Clone, Copy, PartialEq, Eq, Debug)]
+#[derive(Clone, Copy, PartialEq, Eq)]
 pub struct FeatureFlags {
     /// Every glyph has the feature; where its value is 1, no bit of a mask is kept for it.
     pub is_global: bool,
@@ -44,7 +44,7 @@ impl FeatureFlags {
 }
 
 /// A feature that is asked for: all that was asked of one tag.
-#[derive(Clone, Copy, PartialEq, Eq, Debug)]
+#[derive(Clone, Copy, PartialEq, Eq)]
 pub struct FeatureRequest {
     /// The feature's tag.
     pub tag: Tag,

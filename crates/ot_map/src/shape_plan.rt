@@ -1,8 +1,10 @@
 //! How a text is shaped by a font: HarfBuzz's `hb_ot_shape_plan_t`.
 
-ghost use Rattle.std.specs.Prelude.{◌≡◌, map, IfOk};
+ghost use Rattle.std.specs.Prelude.{◌≡◌, ◌++◌, map, IfOk};
+ghost use Rattle.ot_map.specs.Asked.{Asks, collected, nothing_yet, with_asks};
 ghost use Rattle.ot_map.specs.Choice.{script_of};
-ghost use Rattle.ot_map.specs.Plan.{IsPlan};
+ghost use Rattle.ot_map.specs.Chosen.{AreChosenOf, IsChosenOf};
+ghost use Rattle.ot_map.specs.CommonFeatures.{first_features, last_features, user_features};
 ghost use Rattle.ot_map.specs.Tables.{list_of};
 
 use crate::builder::{ChosenTable, PlanBuilder};
@@ -13,7 +15,7 @@ use rb_text::Feature;
 use std::alloc::{AllocError, Global};
 
 /// What a plan asks of a font's table `kern`.
-#[derive(Clone, Copy, PartialEq, Eq, Debug)]
+#[derive(Clone, Copy, PartialEq, Eq)]
 pub struct KernLayout {
     /// Whether the font has the table.
     pub is_there: bool,
@@ -24,7 +26,7 @@ pub struct KernLayout {
 }
 
 /// What a plan asks of a font.
-#[derive(Clone, Copy, Debug)]
+#[derive(Clone, Copy)]
 pub struct FontLayout<'a> {
     /// The table `GSUB`; empty where the font has none.
     pub gsub: &'a [u8],
@@ -40,7 +42,7 @@ pub struct FontLayout<'a> {
 }
 
 /// What a plan asks of a text.
-#[derive(Clone, Copy, Debug)]
+#[derive(Clone, Copy)]
 pub struct TextProperties<'a> {
     /// The direction.
     pub direction: Direction,
@@ -50,28 +52,8 @@ pub struct TextProperties<'a> {
     pub languages: &'a [Tag],
 }
 
-/// What the shaper of a text's script says of positions.
-#[derive(Clone, Copy, PartialEq, Eq, Debug)]
-pub struct ShaperRules {
-    /// The script that `GPOS` has to have for its lookups to be applied; `None` where any will do.
-    pub gpos_script: Option<Tag>,
-    /// Whether marks lose their width.
-    pub zero_marks: bool,
-    /// Whether marks are placed by the bounds of glyphs where the font does not place them.
-    pub fallback_position: bool,
-}
-
-impl ShaperRules {
-    /// Those of the default shaper.
-    pub const DEFAULT: ShaperRules = ShaperRules {
-        gpos_script: None,
-        zero_marks: true,
-        fallback_position: true,
-    };
-}
-
 /// How a text is shaped by a font.
-#[derive(Debug, Drop)]
+#[derive(Drop)]
 pub struct ShapePlan {
     /// The lookups and the features.
     pub layout: LayoutPlan,
@@ -108,20 +90,6 @@ pub struct ShapePlan {
 }
 
 impl ShapePlan {
-    /// The plan of the default shaper, for a text and a user's features.
-    pub fn new(
-        alloc: Global,
-        font: &FontLayout,
-        text: &TextProperties,
-        features: &[Feature],
-    ) -> Result<ShapePlan, AllocError>
-        ensures { IfOk result (λ plan. IsPlan plan.layout) }
-    {
-        let mut builder = ShapePlan::begin(alloc, font, text)?;
-        ShapePlan::add_common_features(&mut builder, text.direction, features)?;
-        ShapePlan::complete(alloc, builder, font, text.direction, ShaperRules::DEFAULT)
-    }
-
     /// What is chosen of a font for a text, and the features that come before those of a script's shaper.
     pub fn begin<'a>(
         alloc: Global,
@@ -132,13 +100,12 @@ impl ShapePlan {
             ≡ (script_of (list_of font.now.gsub.now 4) (map (λ tag. tag.0) text.now.scripts.now)).0) }
         ensures gpos { IfOk result (λ builder. builder.gpos.script.tag.0
             ≡ (script_of (list_of font.now.gpos.now 4) (map (λ tag. tag.0) text.now.scripts.now)).0) }
+        ensures tables { IfOk result (λ builder. AreChosenOf font.now text.now builder) }
+        ensures asked { IfOk result (λ builder.
+            collected builder ≡ with_asks (first_features text.now.direction) nothing_yet) }
     {
-        let gsub = ChosenTable::new(font.gsub, text.scripts, text.languages).with_substitutions(
-            font.gsub_substitutions,
-        );
-        let gpos = ChosenTable::new(font.gpos, text.scripts, text.languages).with_substitutions(
-            font.gpos_substitutions,
-        );
+        let gsub = chosen(font.gsub, font.gsub_substitutions, text);
+        let gpos = chosen(font.gpos, font.gpos_substitutions, text);
         let mut builder = PlanBuilder::new(alloc, gsub, gpos);
         add_first_features(&mut builder, text.direction)?;
         Ok(builder)
@@ -149,70 +116,20 @@ impl ShapePlan {
         builder: &mut PlanBuilder,
         direction: Direction,
         features: &[Feature],
-    ) -> Result<(), AllocError> {
-        add_last_features(builder, direction)?;
-        add_user_features(builder, features)
-    }
-
-    /// The plan of all features that were asked for.
-    pub fn complete(
-        alloc: Global,
-        builder: PlanBuilder,
-        font: &FontLayout,
-        direction: Direction,
-        rules: ShaperRules,
-    ) -> Result<ShapePlan, AllocError>
-        ensures { IfOk result (λ plan. IsPlan plan.layout) }
+    ) -> Result<(), AllocError>
+        ensures { IfOk result
+            (λ _. Asks (last_features direction ++ user_features features.now) builder.old builder.new) }
     {
-        let layout = builder.compile(alloc)?;
-        Ok(decided(layout, font, direction, rules))
+        add_last_features(builder, direction)?;
+        add_user_features(builder, features)?;
+        Ok(())
     }
 }
 
-/// What follows from the features of a plan, the tables of a font and the shaper of a script.
-fn decided(
-    layout: LayoutPlan,
-    font: &FontLayout,
-    direction: Direction,
-    rules: ShaperRules,
-) -> ShapePlan
-    ensures { result.layout ≡ layout }
+/// What is chosen of a table for a text. These feature tables stand in the place of others.
+fn chosen<'a>(table: &'a [u8], substitutions: &'a [u8], text: &TextProperties) -> ChosenTable<'a>
+    ensures { IsChosenOf table.now substitutions.now (map (λ tag. tag.0) text.now.scripts.now)
+        (map (λ tag. tag.0) text.now.languages.now) result }
 {
-    let kern_tag = if direction.is_horizontal() {
-        Tag::from_bytes(b"kern")
-    } else {
-        Tag::from_bytes(b"vkrn")
-    };
-    let frac_mask = layout.one_mask(Tag::from_bytes(b"frac"));
-    let numr_mask = layout.one_mask(Tag::from_bytes(b"numr"));
-    let dnom_mask = layout.one_mask(Tag::from_bytes(b"dnom"));
-    let kern_mask = layout.mask(kern_tag);
-    let has_gpos_kern = layout
-        .feature(kern_tag)
-        .is_some_and(|feature| feature.gpos.is_some());
-    let is_script = match rules.gpos_script {
-        Some(script) => script == layout.gpos_script,
-        None => true,
-    };
-    let apply_gpos = is_script && !font.gpos.is_empty();
-    let apply_kern = font.kern.is_there && !(has_gpos_kern && apply_gpos);
-    let adjusts = !apply_gpos && !(apply_kern && font.kern.is_cross_stream);
-    ShapePlan {
-        frac_mask,
-        numr_mask,
-        dnom_mask,
-        has_frac: frac_mask != 0 || numr_mask != 0 && dnom_mask != 0,
-        rtlm_mask: layout.one_mask(Tag::from_bytes(b"rtlm")),
-        has_vert: layout.one_mask(Tag::from_bytes(b"vert")) != 0,
-        kern_mask,
-        requested_kerning: kern_mask != 0,
-        apply_gpos,
-        apply_kern,
-        apply_fallback_kern: !apply_gpos && !apply_kern,
-        zero_marks: rules.zero_marks && !(apply_kern && font.kern.has_machine),
-        has_gpos_mark: layout.one_mask(Tag::from_bytes(b"mark")) != 0,
-        adjust_mark_positioning_when_zeroing: adjusts,
-        fallback_mark_positioning: adjusts && rules.fallback_position,
-        layout,
-    }
+    ChosenTable::new(table, text.scripts, text.languages).with_substitutions(substitutions)
 }

@@ -13,7 +13,7 @@ use font_variations::feature_variations::substitute_of;
 use rb_common::Tag;
 
 /// The lists of a table `GSUB` or `GPOS`, found once.
-#[derive(Clone, Copy, Debug)]
+#[derive(Clone, Copy)]
 pub struct LayoutTable<'a> {
     /// The script list; empty where the table has none.
     pub scripts: &'a [u8],

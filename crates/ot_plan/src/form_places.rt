@@ -11,7 +11,7 @@ use std::marker::Model;
 use std::ops::Range;
 
 /// Where the lookups of each feature that a shaper of syllables asks of stand in the list of a plan.
-#[derive(Debug, Drop)]
+#[derive(Drop)]
 pub struct FormPlaces {
     rphf: Range<usize>,
     pref: Range<usize>,

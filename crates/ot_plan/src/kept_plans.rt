@@ -15,7 +15,7 @@ const MOST_PLANS: usize = 64;
 
 /// Plans of the texts before, each of which is used again for texts of the same font that it is for too, as HarfBuzz's
 /// `hb_shape_plan_create_cached2` does it.
-#[derive(Debug, Drop)]
+#[derive(Drop)]
 pub struct KeptPlans {
     plans: Option<Vec<ShapePlan>>,
 }

@@ -28,7 +28,7 @@ use shaping_buffer::hb_buffer_t;
 use std::alloc::AllocError;
 
 /// How a text is shaped by a font: its features and lookups, and what the shaper of its script makes of them.
-#[derive(Debug, Drop)]
+#[derive(Drop)]
 pub struct TextPlan {
     /// Features, lookups and positions.
     pub shape: ShapePlan,

@@ -17,7 +17,7 @@ use std::marker::Model;
 
 /// How texts of a script, a language and a direction are shaped by a font, with some features, and at the variations that were
 /// chosen when it was made.
-#[derive(Debug, Drop)]
+#[derive(Drop)]
 pub struct ShapePlan {
     made: TextPlan,
     direction: Direction,

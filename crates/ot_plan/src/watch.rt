@@ -6,7 +6,7 @@ use shaping_buffer::hb_buffer_t;
 use std::alloc::AllocError;
 
 /// A step of shaping.
-#[derive(Clone, Copy, PartialEq, Eq, Debug)]
+#[derive(Clone, Copy, PartialEq, Eq)]
 pub enum Step {
     /// The text was put in order, and characters were composed or taken apart: the items are characters yet.
     Characters,
@@ -32,7 +32,7 @@ pub trait Watch {
 }
 
 /// Nobody is told.
-#[derive(Clone, Copy, Debug)]
+#[derive(Clone, Copy)]
 pub struct Unwatched;
 
 impl Watch for Unwatched {

@@ -7,7 +7,8 @@ use font_face::Face;
 use font_functions::FontFunctions;
 use font_variations::Deltas;
 use glyph_digests::Digest;
-use ot_gpos::{Setting, position_start};
+use ot_attachments::position_start;
+use ot_gpos::Setting;
 use ot_gpos_tables::contour_points::{ContourPoint, ContourPoints};
 use ot_gpos_tables::instance::Instance;
 use ot_gpos_tables::kern_table::KernTable;
@@ -175,5 +176,5 @@ fn apply_kern(buffer: &mut hb_buffer_t, face: &Face, mask: u32)
         random: false,
     };
     let table = KernTable::new(face.layout.kern);
-    ot_gpos::kern(buffer, &table, &face.scale, &options);
+    ot_kern::kern(buffer, &table, &face.scale, &options);
 }

@@ -7,7 +7,7 @@ ghost use Rattle.shaping_buffer.specs.KeepsClusters.{KeepsClusters};
 use crate::lookups::position_by_lookups;
 use font_face::Face;
 use font_functions::FontFunctions;
-use ot_gpos::position_finish_offsets;
+use ot_attachments::position_finish_offsets;
 use ot_map::ShapePlan;
 use ot_plan::{Step, TextPlan, Watch};
 use ot_positions::{

@@ -15,7 +15,7 @@ use std::alloc::AllocError;
 const KEPT: usize = 256;
 
 /// A glyph, and the position that the font gives it.
-#[derive(Clone, Copy, Debug)]
+#[derive(Clone, Copy)]
 pub(crate) struct KeptPosition {
     /// The glyph.
     pub glyph: GlyphId,

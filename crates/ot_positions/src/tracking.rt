@@ -9,7 +9,7 @@ use script_items::glyph_info::is_continuation;
 use shaping_buffer::{GlyphPosition, hb_buffer_t};
 
 /// How far glyphs are moved apart, in the direction of the line.
-#[derive(Clone, Copy, Debug)]
+#[derive(Clone, Copy)]
 struct Space {
     is_horizontal: bool,
     /// How much is added to the advance.

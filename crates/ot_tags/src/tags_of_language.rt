@@ -18,7 +18,7 @@ const EXTENDED_PREFIX_MIN: usize = 6;
 ///
 /// `tags_from_script_and_language` takes it for that language, and needs no table beside it. A contract sees the
 /// numbers of the tags.
-#[derive(Debug, Drop)]
+#[derive(Drop)]
 pub struct LanguageTags {
     pub(crate) first: Option<Tag>,
     pub(crate) second: Option<Tag>,

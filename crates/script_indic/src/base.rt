@@ -9,7 +9,7 @@ use script_syllables::{Category, Position};
 use shaping_buffer::hb_glyph_info_t;
 
 /// The base of a syllable.
-#[derive(Clone, Copy, PartialEq, Eq, Debug)]
+#[derive(Clone, Copy, PartialEq, Eq)]
 pub(crate) struct Base {
     /// Its place; the length of the syllable where there is none.
     pub place: usize,

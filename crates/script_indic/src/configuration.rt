@@ -3,7 +3,7 @@
 use rb_common::{Script, script};
 
 /// Where a reph goes.
-#[derive(Clone, Copy, PartialEq, Eq, Debug)]
+#[derive(Clone, Copy, PartialEq, Eq)]
 pub enum RephPosition {
     /// Behind the base.
     AfterMain,
@@ -18,7 +18,7 @@ pub enum RephPosition {
 }
 
 /// What makes a reph.
-#[derive(Clone, Copy, PartialEq, Eq, Debug)]
+#[derive(Clone, Copy, PartialEq, Eq)]
 pub enum RephMode {
     /// RA and a halant at the start of a syllable.
     Implicit,
@@ -29,7 +29,7 @@ pub enum RephMode {
 }
 
 /// What differs from script to script.
-#[derive(Clone, Copy, PartialEq, Eq, Debug)]
+#[derive(Clone, Copy, PartialEq, Eq)]
 pub struct IndicConfiguration {
     /// Whether the script has an OpenType tag of the old specification beside the new one.
     pub has_old_spec: bool,

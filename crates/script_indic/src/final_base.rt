@@ -12,7 +12,7 @@ use script_syllables::{Category, Position};
 use shaping_buffer::hb_glyph_info_t;
 
 /// The base of a syllable after the basic features.
-#[derive(Clone, Copy, PartialEq, Eq, Debug)]
+#[derive(Clone, Copy, PartialEq, Eq)]
 pub(crate) struct FinalBase {
     /// Its place; the length of the syllable where there is none.
     pub place: usize,

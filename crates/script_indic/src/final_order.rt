@@ -16,26 +16,32 @@ use rb_glyph::hb_gc::{
 };
 use script_items::item::general_category;
 use script_syllables::item::{add_mask, is_ligated, position, set_category};
+use script_syllables::reordering::{SyllableOrder, reorder_syllables};
 use script_syllables::syllables::within;
 use script_syllables::{Category, Position};
 use shaping_buffer::{hb_buffer_t, hb_glyph_info_t};
 use std::ops::Range;
 
 /// Puts the glyphs of each syllable in order. `virama` is the glyph of the halant.
-#[tactic(auto, using(script_syllables::proofs::NumbersLemmas::numbered))]
 pub(crate) fn order_finally(buffer: &mut hb_buffer_t, plan: &IndicPlan, virama: Option<u32>)
     requires { buffer.old.have_output ≡ false }
     ensures closed { buffer.new.have_output ≡ false }
     ensures keeps { KeepsNumbers buffer.old buffer.new }
 {
-    let mut start = 0;
-    for _turn in 0..buffer.len() {
-        if start >= buffer.len() {
-            break;
-        }
-        let end = buffer.next_syllable(start);
-        order_syllable(buffer, &(start..end), plan, virama);
-        start = end;
+    reorder_syllables(buffer, &FinalOrder { plan, virama });
+}
+
+/// The order of syllables after the basic features.
+#[derive(Clone, Copy)]
+struct FinalOrder<'a> {
+    plan: &'a IndicPlan,
+    /// The glyph of the halant.
+    virama: Option<u32>,
+}
+
+impl<'a> SyllableOrder for FinalOrder<'a> {
+    fn reorder_syllable(&self, buffer: &mut hb_buffer_t, range: &Range<usize>) {
+        order_syllable(buffer, range, self.plan, self.virama);
     }
 }
 

@@ -22,7 +22,7 @@ use std::alloc::{AllocError, Global};
 pub(crate) const BROKEN: u8 = 4;
 
 /// The masks of the features that not every glyph has.
-#[derive(Clone, Copy, PartialEq, Eq, Debug, Default)]
+#[derive(Clone, Copy, PartialEq, Eq, Default)]
 pub struct IndicMasks {
     /// Rephs.
     pub rphf: u32,
@@ -41,7 +41,7 @@ pub struct IndicMasks {
 }
 
 /// Which forms of consonants a font has lookups for.
-#[derive(Clone, Copy, PartialEq, Eq, Debug, Default)]
+#[derive(Clone, Copy, PartialEq, Eq, Default)]
 pub struct ConsonantForms {
     /// Those of a RA that stands before its base.
     pub pref: bool,
@@ -54,7 +54,7 @@ pub struct ConsonantForms {
 }
 
 /// How a text of an Indic script is shaped by a font.
-#[derive(Clone, Copy, PartialEq, Eq, Debug)]
+#[derive(Clone, Copy, PartialEq, Eq)]
 pub struct IndicPlan {
     /// The script of the text.
     pub script: Option<Script>,

@@ -6,7 +6,7 @@ ghost use Rattle.shaping_buffer.specs.KeepsClusters.{KeepsClusters};
 use shaping_buffer::{hb_buffer_t, hb_glyph_info_t};
 
 /// What a character has to do with others elsewhere in the text.
-#[derive(Clone, Copy, PartialEq, Eq, Debug)]
+#[derive(Clone, Copy, PartialEq, Eq)]
 pub enum Tie {
     /// Others hang on it: what they become depends on whether their text has such a character.
     Anchor,

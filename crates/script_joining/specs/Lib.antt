@@ -2,3 +2,4 @@ pub mod Joining
 pub mod JoiningRows
 pub mod Listed
 pub mod Flags
+pub mod ArabicFeatures

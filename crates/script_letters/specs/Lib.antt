@@ -1,3 +1,4 @@
 pub mod Hangul
+pub mod HangulFeatures
 pub mod Hebrew
 pub mod Thai

@@ -10,7 +10,7 @@ use script_joining::arabic::features::{FORM_FEATURES, lacks_forms};
 use script_letters::hangul::JAMO_FEATURES;
 
 /// What the features of a font make of a script's shaper: HarfBuzz's `data_create`.
-#[derive(Clone, Copy, Debug)]
+#[derive(Clone, Copy)]
 pub struct ScriptPlan {
     /// The shaper.
     pub shaper: ScriptShaper,

@@ -33,7 +33,7 @@ use shaping_buffer::hb_buffer_t;
 use std::alloc::{AllocError, Global};
 
 /// The shaper of a script.
-#[derive(Clone, Copy, PartialEq, Eq, Debug)]
+#[derive(Clone, Copy, PartialEq, Eq)]
 pub enum ScriptShaper {
     /// That of scripts which need no more than their lookups.
     Default,
@@ -65,7 +65,7 @@ pub enum ScriptShaper {
 use ScriptShaper::*;
 
 /// Whether characters are taken apart and composed: HarfBuzz's `hb_ot_shape_normalization_mode_t`.
-#[derive(Clone, Copy, PartialEq, Eq, Debug)]
+#[derive(Clone, Copy, PartialEq, Eq)]
 pub enum NormalizationMode {
     /// Only characters that the font has no glyph for are taken apart.
     Nothing,
@@ -77,7 +77,7 @@ pub enum NormalizationMode {
 }
 
 /// When marks lose their width: HarfBuzz's `hb_ot_shape_zero_width_marks_type_t`.
-#[derive(Clone, Copy, PartialEq, Eq, Debug)]
+#[derive(Clone, Copy, PartialEq, Eq)]
 pub enum ZeroWidthMarks {
     /// They keep it.
     Never,

@@ -10,12 +10,12 @@ use ot_map::{LayoutPlan, Pause};
 use rb_common::Script;
 use script_indic::IndicPlan;
 use script_syllables::{FontForms, item};
-use script_universal::{KhmerPlan, UniversalPlan, khmer, myanmar, universal};
+use script_universal::{KhmerPlan, MyanmarShaper, UniversalPlan, khmer, universal};
 use shaping_buffer::hb_buffer_t;
 use std::alloc::{AllocError, Global};
 
 /// How a text that is written in syllables is shaped by a font.
-#[derive(Clone, Copy, PartialEq, Eq, Debug)]
+#[derive(Clone, Copy, PartialEq, Eq)]
 pub enum SyllablePlan {
     /// It is not written in syllables.
     None,
@@ -61,8 +61,8 @@ impl SyllablePlan {
     {
         match self {
             SyllablePlan::Indic(plan) => plan.pause(alloc, buffer, font, pause),
-            SyllablePlan::Khmer(plan) => plan.pause(buffer, font, pause),
-            SyllablePlan::Myanmar => myanmar::plan::pause(buffer, font, pause),
+            SyllablePlan::Khmer(plan) => script_universal::pause(plan, buffer, font, pause),
+            SyllablePlan::Myanmar => script_universal::pause(&MyanmarShaper, buffer, font, pause),
             SyllablePlan::Universal(plan) => plan.pause(buffer, font, pause),
             SyllablePlan::None => Ok(true),
         }

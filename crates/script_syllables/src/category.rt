@@ -5,7 +5,7 @@ mod rows;
 pub mod search;
 
 /// What a character is in a syllable (Unicode, Indic_Syllabic_Category, as OpenType's documents on these scripts take it).
-#[derive(Clone, Copy, PartialEq, Eq, Debug)]
+#[derive(Clone, Copy, PartialEq, Eq)]
 pub enum Category {
     /// None of those below.
     Other,

@@ -17,7 +17,7 @@ use std::alloc::AllocError;
 pub(crate) const DOTTED_CIRCLE: u32 = 0x25CC;
 
 /// How a shaper takes the dotted circle.
-#[derive(Clone, Copy, Debug)]
+#[derive(Clone, Copy)]
 pub struct CircleKind {
     /// The byte of its category.
     pub category: u8,
@@ -30,7 +30,7 @@ pub struct CircleKind {
 }
 
 /// What is put before the signs of a broken syllable: a glyph, and how it is taken.
-#[derive(Clone, Copy, Debug)]
+#[derive(Clone, Copy)]
 struct Circle {
     glyph: u32,
     kind: CircleKind,

@@ -1,7 +1,7 @@
 //! What the shapers of syllables ask of a font.
 
 /// A feature that a shaper asks of, whether it would substitute glyphs.
-#[derive(Clone, Copy, PartialEq, Eq, Debug)]
+#[derive(Clone, Copy, PartialEq, Eq)]
 pub enum FormFeature {
     /// A RA and a halant as a reph.
     Rphf,

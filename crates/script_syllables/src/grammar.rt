@@ -9,7 +9,7 @@ use crate::syllables::NO_KIND;
 use rb_glyph::hb_glyph_info_t;
 
 /// How the syllables of a script are found.
-#[derive(Clone, Copy, Debug)]
+#[derive(Clone, Copy)]
 pub struct Grammar<'a> {
     /// The machine that reads them.
     pub machine: Machine<'a>,
@@ -20,7 +20,7 @@ pub struct Grammar<'a> {
 }
 
 /// A syllable at the start of a list.
-#[derive(Clone, Copy, PartialEq, Eq, Debug)]
+#[derive(Clone, Copy, PartialEq, Eq)]
 pub(crate) struct Syllable {
     /// How many items it has.
     pub length: usize,

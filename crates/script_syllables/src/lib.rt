@@ -20,6 +20,7 @@ pub mod grammar;
 pub mod item;
 pub mod machine;
 pub mod moves;
+pub mod reordering;
 pub mod requests;
 pub mod syllables;
 pub mod vowel_sequences;

@@ -4,7 +4,7 @@ ghost use Rattle.std.specs.Prelude.{◌≡◌, None, get_or};
 ghost use Rattle.script_syllables.specs.Machines.{next_state};
 
 /// A machine that reads categories one after the other, and knows of each state the kind of the syllable that ends there.
-#[derive(Clone, Copy, Debug)]
+#[derive(Clone, Copy)]
 pub struct Machine<'a> {
     /// The next state of each state, a row for each, by the number of a category; 0 where a syllable goes no further. The first state
     /// is 1.

@@ -1,6 +1,7 @@
 //! Features that are asked for together.
 
-ghost use Rattle.std.specs.Prelude.{◌≡◌, ◌++◌, length, replicate, IfOk};
+ghost use Rattle.std.specs.Prelude.{◌≡◌, ◌++◌, [], ◌∷◌, length, map, replicate, IfOk};
+ghost use Rattle.ot_map.specs.Asked.{Asks, in_stages, of_some};
 ghost use Rattle.ot_map.specs.Pauses.{HasSamePauses};
 ghost use Rattle.ot_map.specs.declared.plan.Pause.TheVariants.{Nothing};
 
@@ -8,13 +9,40 @@ use ot_map::{FeatureFlags, Pause, PlanBuilder};
 use rb_common::Tag;
 use std::alloc::AllocError;
 
+/// A match ends with its syllable.
+pub const PER_SYLLABLE: FeatureFlags = FeatureFlags {
+    per_syllable: true,
+    ..FeatureFlags::NONE
+};
+
+/// An input passes over no joiner.
+pub const MANUAL_JOINER: FeatureFlags = FeatureFlags {
+    manual_zwj: true,
+    ..FeatureFlags::NONE
+};
+
+/// A match passes over no joiner.
+pub const MANUAL_JOINERS: FeatureFlags = FeatureFlags {
+    manual_zwnj: true,
+    ..MANUAL_JOINER
+};
+
+/// The features of presentation forms, and whether every glyph has it.
+pub const PRESENTATION_FEATURES: [(&[u8; 4], bool); 4] = [
+    (b"pres", true),
+    (b"abvs", true),
+    (b"blws", true),
+    (b"psts", true),
+];
+
 /// Asks for features in one stage. Beside the name of each is whether every glyph has it.
 pub fn add_all(
     builder: &mut PlanBuilder,
     features: &[(&[u8; 4], bool)],
     flags: FeatureFlags,
 ) -> Result<(), AllocError>
-    ensures { HasSamePauses builder.old builder.new }
+    ensures pauses { HasSamePauses builder.old builder.new }
+    ensures asks { IfOk result (λ _. Asks (map (λ it. of_some flags it.1 it.0.now) features.now) builder.old builder.new) }
 {
     for (name, is_global) in features {
         add_one(builder, name, *is_global, flags)?;
@@ -28,7 +56,9 @@ pub fn add_in_stages(
     features: &[(&[u8; 4], bool)],
     flags: FeatureFlags,
 ) -> Result<(), AllocError>
-    ensures { IfOk result (λ _. builder.new.pauses.items ≡ builder.old.pauses.items ++ replicate (length features.now) Nothing) }
+    ensures pauses { IfOk result (λ _. builder.new.pauses.items ≡ builder.old.pauses.items ++ replicate (length features.now) Nothing) }
+    ensures asks { IfOk result
+        (λ _. Asks (in_stages (map (λ it. of_some flags it.1 it.0.now) features.now)) builder.old builder.new) }
 {
     for (name, is_global) in features {
         add_one(builder, name, *is_global, flags)?;
@@ -44,8 +74,10 @@ fn add_one(
     is_global: bool,
     flags: FeatureFlags,
 ) -> Result<(), AllocError>
-    ensures { HasSamePauses builder.old builder.new }
+    ensures pauses { HasSamePauses builder.old builder.new }
+    ensures asks { IfOk result (λ _. Asks (of_some flags is_global name.now ∷ []) builder.old builder.new) }
 {
     let flags = FeatureFlags { is_global, ..flags };
-    builder.add_feature(Tag::from_bytes(name), flags, 1)
+    builder.add_feature(Tag::from_bytes(name), flags, 1)?;
+    Ok(())
 }

@@ -26,7 +26,7 @@ use shaping_buffer::{Direction, GlyphBuffer, GlyphId, UnicodeBuffer};
 use std::alloc::{AllocError, Global};
 
 /// What is printed of a line.
-#[derive(Debug, Drop)]
+#[derive(Drop)]
 pub struct Answered {
     /// The steps of its shaping; none where they are not printed.
     pub trace: Trace,

@@ -13,7 +13,7 @@ use std::alloc::AllocError;
 const KEPT: usize = 1024;
 
 /// A glyph, and its advance in horizontal lines.
-#[derive(Clone, Copy, Debug)]
+#[derive(Clone, Copy)]
 pub struct KeptAdvance {
     /// The glyph.
     pub glyph: GlyphId,

@@ -15,7 +15,7 @@ use std::num::saturating_f32_to_i32;
 
 /// A font at its size, of which the glyphs are drawn bolder and slanted. Glyph 0 has the measures of the glyph that stands for
 /// characters that the font lacks.
-#[derive(Clone, Copy, Debug)]
+#[derive(Clone, Copy)]
 pub struct SyntheticFont<'a> {
     /// The font.
     own: OwnFunctions<'a>,

@@ -10,7 +10,7 @@ use shaping_buffer::{
 use std::alloc::{AllocError, Global};
 
 /// What is changed.
-#[derive(Clone, Copy, Debug)]
+#[derive(Clone, Copy)]
 pub struct Edits {
     /// What stands in place of glyph 0.
     pub not_found: GlyphId,

@@ -8,7 +8,7 @@ use shaping_buffer::{Direction, GlyphId, GlyphNames, GlyphPosition, hb_glyph_inf
 use std::alloc::{AllocError, Global};
 
 /// Glyphs that are read, and where each is drawn.
-#[derive(Debug, Drop)]
+#[derive(Drop)]
 pub struct ReadGlyphs {
     /// The glyphs.
     pub infos: Vec<hb_glyph_info_t>,
@@ -107,7 +107,7 @@ fn advance<F: FontFunctions>(
 }
 
 /// What an item writes, of which each part but the name may be left out.
-#[derive(Clone, Copy, Debug)]
+#[derive(Clone, Copy)]
 struct Item<'a> {
     /// The glyph's name, or its number.
     name: &'a str,

@@ -31,7 +31,7 @@ const STYLE: &str =
     "<style>.step{font:13px monospace;fill:#333}.glyph{font:bold 14px sans-serif;text-anchor:middle}.cluster{font:11px sans-serif;text-anchor:middle;fill:#333}.note{font:12px sans-serif;fill:#555}</style>";
 
 /// The name of a row, which is that of a step of shaping.
-#[derive(Clone, Copy, PartialEq, Eq, Debug)]
+#[derive(Clone, Copy, PartialEq, Eq)]
 pub enum RowName {
     /// The items are characters yet.
     Characters,
@@ -49,7 +49,7 @@ impl RowName {
 }
 
 /// The glyphs after a step.
-#[derive(Debug, Drop)]
+#[derive(Drop)]
 struct Row {
     name: RowName,
     glyphs: Vec<hb_glyph_info_t>,

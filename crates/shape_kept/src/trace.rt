@@ -18,7 +18,7 @@ use std::alloc::{AllocError, Global};
 use std::fmt::Write;
 
 /// What the buffer is after a step.
-#[derive(Debug, Drop)]
+#[derive(Drop)]
 struct Told {
     step: Step,
     items: Vec<hb_glyph_info_t>,
@@ -27,7 +27,7 @@ struct Told {
 }
 
 /// The steps of shaping a line, which it is told as the line is shaped.
-#[derive(Debug, Drop)]
+#[derive(Drop)]
 pub struct Trace {
     alloc: Global,
     steps: Vec<Told>,

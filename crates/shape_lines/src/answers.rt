@@ -10,7 +10,7 @@ use shaping_verification::VerifyError;
 use std::io::Write;
 
 /// What a line is answered with.
-#[derive(Debug, Drop)]
+#[derive(Drop)]
 pub enum Answer {
     /// It has no glyph.
     Empty,

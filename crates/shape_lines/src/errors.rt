@@ -6,7 +6,7 @@ use std::io::{self, ErrorKind};
 use thiserror::Error;
 
 /// Why not each line of a text was answered.
-#[derive(Debug, Drop)]
+#[derive(Drop)]
 pub enum LinesError {
     /// The text was not read to its end.
     Read(io::Error),

@@ -14,7 +14,7 @@ use std::io::{self, BufRead, ErrorKind};
 const BUFFER: usize = 8192;
 
 /// What is seen of the bytes of a text.
-#[derive(Clone, Copy, PartialEq, Eq, Debug)]
+#[derive(Clone, Copy, PartialEq, Eq)]
 pub enum Reading {
     /// All of them: the text is a word of the command line.
     Whole,
@@ -117,7 +117,7 @@ fn keep_held(alloc: Global, bytes: &mut Vec<u8>, start: usize) -> Result<(), All
 }
 
 /// Where in a string of C a byte stands.
-#[derive(Clone, Copy, Debug)]
+#[derive(Clone, Copy)]
 struct Place {
     /// How many bytes the string still has room for.
     left: usize,

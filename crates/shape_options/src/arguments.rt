@@ -1,6 +1,6 @@
 //! The words of a command line, by `clap`.
 
-use crate::option_table::{GROUPS, OPTIONS, letter_of};
+use crate::option_table::{HELP, OPTIONS, Row};
 use clap::{Arg, ArgAction, ArgMatches, Command, Error};
 use std::alloc::{AllocError, Global};
 use std::convert::AsStr;
@@ -24,21 +24,32 @@ pub(crate) fn matches_of<'a, S: AsStr>(
 
 /// The command line of the program. Of an option that is given twice the later one counts.
 fn command<'a>(alloc: Global) -> Result<Command<'a>, AllocError> {
-    let words = Arg::new(alloc, "words")
+    let command = Command::new(alloc, "vukhaso_shape").about(ABOUT);
+    let command = with_options(alloc, command, &OPTIONS, None)?;
+    let command = with_options(alloc, command, &HELP, None)?;
+    command.arg(words(alloc))
+}
+
+/// The words that are no options.
+fn words<'a>(alloc: Global) -> Arg<'a> {
+    Arg::new(alloc, "words")
         .value_name("FONT [TEXT]")
         .num_args(0..)
         .action(ArgAction::Append)
-        .help("The font, and the text; without a text standard input is read");
-    let command = with_help_options(alloc, with_options(alloc, None)?)?;
-    command.about(ABOUT).arg(words)
+        .help("The font, and the text; without a text standard input is read")
 }
 
-/// A command with the options of a group, or with all.
-fn with_options<'a>(alloc: Global, group: Option<&str>) -> Result<Command<'a>, AllocError> {
-    let mut command = Command::new(alloc, "vukhaso_shape");
-    for (of, name, value_name, help) in &OPTIONS {
-        if group.is_none_or(|group| group == *of) {
-            command = with_option(command, option(alloc, name, value_name, help))?;
+/// A command with these options, or with those of a group among them.
+fn with_options<'a>(
+    alloc: Global,
+    command: Command<'a>,
+    options: &'static [Row],
+    group: Option<&str>,
+) -> Result<Command<'a>, AllocError> {
+    let mut command = command;
+    for row in options {
+        if group.is_none_or(|group| group == row.0) {
+            command = with_option(command, option(alloc, row))?;
         }
     }
     Ok(command)
@@ -55,18 +66,14 @@ fn with_option<'a>(
     }
 }
 
-/// An option of this name, which may be given more than once, with a value where that has a name. `v` is a letter alone.
-fn option<'a>(
-    alloc: Global,
-    name: &'static str,
-    value_name: &'static str,
-    help: &'static str,
-) -> Result<Arg<'a>, AllocError> {
+/// An option, which may be given more than once, with a value where that has a name. `v` is a letter alone.
+fn option<'a>(alloc: Global, row: &'static Row) -> Result<Arg<'a>, AllocError> {
+    let (_, name, letter, value_name, help) = *row;
     let mut arg = Arg::new(alloc, name).help(help).overrides_with(name)?;
     if name != "v" {
         arg = arg.long(name);
     }
-    if let Some(letter) = letter_of(name) {
+    if let Some(letter) = letter {
         arg = arg.short(letter);
     }
     if value_name.is_empty() {
@@ -75,28 +82,17 @@ fn option<'a>(
     Ok(arg.allow_hyphen_values(true).value_name(value_name))
 }
 
-/// A command with the options that ask for help on a group, or on all.
-fn with_help_options<'a>(alloc: Global, command: Command<'a>) -> Result<Command<'a>, AllocError> {
-    let mut command = command;
-    for (_, name, about) in &GROUPS {
-        command = with_option(command, option(alloc, name, "", about))?;
-    }
-    with_option(command, option(alloc, "help-all", "", "All options"))
-}
-
 /// What words ask for in place of answers, if they do: help on some options, the version or the shapers.
 pub(crate) fn asked_for(
     alloc: Global,
     matches: &ArgMatches<'_>,
 ) -> Result<Option<String>, AllocError> {
-    for (group, name, about) in &GROUPS {
+    for (group, name, _, _, about) in &HELP {
         if matches.get_flag(name) {
             return Ok(Some(help_on(alloc, group, about)?));
         }
     }
-    if matches.get_flag("help-all") {
-        Ok(Some(help_on_all(alloc)?))
-    } else if matches.get_flag("version") {
+    if matches.get_flag("version") {
         Ok(Some(String::from_str(alloc, VERSION)?))
     } else if matches.get_flag("list-shapers") {
         Ok(Some(String::from_str(alloc, SHAPERS)?))
@@ -105,12 +101,11 @@ pub(crate) fn asked_for(
     }
 }
 
-/// The help on the options of a group.
+/// The help on the options of a group, or on all where it has no name.
 fn help_on(alloc: Global, group: &str, about: &'static str) -> Result<String, AllocError> {
-    with_options(alloc, Some(group))?.about(about).render_help()
-}
-
-/// The help on all options.
-fn help_on_all(alloc: Global) -> Result<String, AllocError> {
-    command(alloc)?.render_help()
+    if group.is_empty() {
+        return command(alloc)?.render_help();
+    }
+    let command = Command::new(alloc, "vukhaso_shape").about(about);
+    with_options(alloc, command, &OPTIONS, Some(group))?.render_help()
 }

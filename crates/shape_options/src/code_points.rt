@@ -30,7 +30,7 @@ impl<T: Drop> From<AllocFailed<T>> for CodePointsError {
 }
 
 /// What was read of a number.
-#[derive(Clone, Copy, PartialEq, Eq, Debug)]
+#[derive(Clone, Copy, PartialEq, Eq)]
 enum Reading {
     /// Nothing: the next byte may begin a number.
     Between,

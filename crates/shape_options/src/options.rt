@@ -71,7 +71,7 @@ impl From<AllocError> for OptionsError<'_> {
 }
 
 /// Where the text comes from.
-#[derive(Debug, Drop)]
+#[derive(Drop)]
 pub enum TextSource<'a> {
     /// It is this one.
     Given(&'a str),
@@ -84,7 +84,7 @@ pub enum TextSource<'a> {
 }
 
 /// What makes glyphs of a text.
-#[derive(Clone, Copy, PartialEq, Eq, Debug)]
+#[derive(Clone, Copy, PartialEq, Eq)]
 pub enum Shaper {
     /// The tables of the font.
     OpenType,
@@ -93,7 +93,7 @@ pub enum Shaper {
 }
 
 /// How lines are made into texts that are shaped, and how they are shaped.
-#[derive(Debug, Drop)]
+#[derive(Drop)]
 pub struct LineOptions<'a> {
     /// What makes glyphs of them.
     pub shaper: Shaper,
@@ -128,7 +128,7 @@ pub struct LineOptions<'a> {
 }
 
 /// A font of a file, and the size at which it is used.
-#[derive(Clone, Copy, PartialEq, Debug)]
+#[derive(Clone, Copy, PartialEq)]
 pub struct FontChoice {
     /// The number of the font in its file.
     pub index: u32,
@@ -145,7 +145,7 @@ pub struct FontChoice {
 }
 
 /// What a command line asks for.
-#[derive(Debug, Drop)]
+#[derive(Drop)]
 pub struct Options<'a> {
     /// The file of the font.
     pub font_file: &'a str,

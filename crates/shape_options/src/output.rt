@@ -6,7 +6,7 @@ use line_formats::heads::Shown;
 use shaping_buffer::{Flags, SerializeFlags};
 
 /// How glyphs are printed.
-#[derive(Clone, Copy, PartialEq, Eq, Debug)]
+#[derive(Clone, Copy, PartialEq, Eq)]
 pub enum OutputFormat {
     /// As the text of HarfBuzz's `hb_buffer_serialize_glyphs`.
     Text,
@@ -17,7 +17,7 @@ pub enum OutputFormat {
 }
 
 /// What is printed of lines and of their glyphs.
-#[derive(Clone, Copy, Debug)]
+#[derive(Clone, Copy)]
 pub struct Output {
     /// How glyphs are printed.
     pub format: OutputFormat,

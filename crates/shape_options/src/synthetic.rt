@@ -6,7 +6,7 @@ use crate::variations::value;
 use clap::ArgMatches;
 
 /// How glyphs are drawn otherwise than the font has them (HarfBuzz's `hb_font_set_synthetic_bold` and `hb_font_set_synthetic_slant`).
-#[derive(Clone, Copy, PartialEq, Debug)]
+#[derive(Clone, Copy, PartialEq)]
 pub struct Synthetic {
     /// How much bolder they are across and upwards, in ems.
     pub bold: (f32, f32),

@@ -33,12 +33,8 @@ impl PassItem {
 
 impl Item for PassItem {
     fn prepare(&mut self) -> anyhow::Result<()> {
-        let mut buffer = mem::replace(&mut self.buffer, hb_buffer_t::new(self.alloc));
-        if buffer.have_output() {
-            bail!("a call was refused");
-        }
-        buffer.clear_positions();
-        let characters = GlyphBuffer::from_buffer(buffer).clear();
+        let buffer = mem::replace(&mut self.buffer, hb_buffer_t::new(self.alloc));
+        let characters = shaped(buffer)?.clear();
         self.buffer = filled(characters, self.size, self.pass.clusters())?;
         if self.pass.has_positions() && !self.buffer.have_output() {
             self.buffer.clear_positions();
@@ -67,14 +63,10 @@ pub struct TextItem {
 
 impl TextItem {
     pub fn new(alloc: Global, size: usize, has_positions: bool) -> anyhow::Result<TextItem> {
-        let mut buffer = filled(UnicodeBuffer::new(alloc), size, Clusters::Single)?;
-        if buffer.have_output() {
-            bail!("a call was refused");
-        }
-        buffer.clear_positions();
+        let buffer = filled(UnicodeBuffer::new(alloc), size, Clusters::Single)?;
         Ok(TextItem {
             alloc,
-            buffer: GlyphBuffer::from_buffer(buffer),
+            buffer: shaped(buffer)?,
             has_positions,
         })
     }
@@ -95,6 +87,15 @@ impl Item for TextItem {
         };
         Ok(low_bits(text.len()))
     }
+}
+
+/// The glyphs of a buffer, with positions.
+pub fn shaped(mut buffer: hb_buffer_t) -> anyhow::Result<GlyphBuffer> {
+    if buffer.have_output() {
+        bail!("a call was refused");
+    }
+    buffer.clear_positions();
+    Ok(GlyphBuffer::from_buffer(buffer))
 }
 
 /// The glyphs 1 to 30000 in turn, as many as asked for, as `push_str` would leave them.

@@ -2,11 +2,11 @@
 
 ghost use Rattle.std.specs.Prelude.{◌≡◌, false};
 
-use crate::item::{last_id, low_bits};
+use crate::item::{last_id, low_bits, shaped};
 use crate::measuring::Item;
 use crate::shaper_tables::Tables;
 use anyhow::bail;
-use shaping_buffer::{CombiningClasses, GlyphBuffer, UnicodeBuffer, hb_buffer_t};
+use shaping_buffer::{CombiningClasses, UnicodeBuffer, hb_buffer_t};
 use shaping_passes::{
     compose_marks, decompose_all, hide_default_ignorables, line_ends, order_marks,
 };
@@ -130,12 +130,8 @@ impl<'a> ShaperItem<'a> {
 
 impl<'a> Item for ShaperItem<'a> {
     fn prepare(&mut self) -> anyhow::Result<()> {
-        let mut buffer = mem::replace(&mut self.buffer, hb_buffer_t::new(self.alloc));
-        if buffer.have_output() {
-            bail!("a call was refused");
-        }
-        buffer.clear_positions();
-        let characters = GlyphBuffer::from_buffer(buffer).clear();
+        let buffer = mem::replace(&mut self.buffer, hb_buffer_t::new(self.alloc));
+        let characters = shaped(buffer)?.clear();
         self.buffer = filled(characters, self.size, self.pass.characters())?;
         if self.buffer.have_output() {
             bail!("a call was refused");

@@ -3,7 +3,7 @@
 use shaping_buffer::{GlyphBuffer, GlyphPosition, glyph_flag, hb_glyph_info_t};
 
 /// What differs between glyphs and those that they are compared with.
-#[derive(Clone, Copy, PartialEq, Eq, Debug)]
+#[derive(Clone, Copy, PartialEq, Eq)]
 pub struct Differences {
     /// There are more glyphs, or fewer. Then no glyph is compared with another one.
     pub length: bool,

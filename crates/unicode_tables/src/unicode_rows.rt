@@ -12,7 +12,7 @@ use rb_glyph::{CombiningClasses, Compositions, Decompositions};
 use std::alloc::{AllocError, Global};
 
 /// The rows of Unicode's tables, made once, and the tables over them.
-#[derive(Debug, Drop)]
+#[derive(Drop)]
 pub struct UnicodeRows {
     classes: Vec<(char, u8)>,
     decompositions: Vec<(char, char, Option<char>)>,

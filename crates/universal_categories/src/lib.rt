@@ -8,7 +8,7 @@ use rows::ROWS;
 
 /// What a character is in a syllable (OpenType, "Creating and supporting OpenType fonts for the Universal Shaping Engine", "Character
 /// classification").
-#[derive(Clone, Copy, PartialEq, Eq, Debug)]
+#[derive(Clone, Copy, PartialEq, Eq)]
 pub enum UniversalCategory {
     /// None of those below.
     Other,

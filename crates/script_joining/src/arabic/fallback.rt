@@ -18,7 +18,7 @@ const IGNORE_MARKS: u16 = 8;
 const FORMS: [Form; 4] = [Form::Init, Form::Medi, Form::Fina, Form::Isol];
 
 /// Lookups that are made from the characters of a font.
-#[derive(Debug, Drop)]
+#[derive(Drop)]
 pub struct FallbackLookups {
     /// A table `GSUB` that has these lookups, and no features.
     pub table: Vec<u8>,
@@ -27,7 +27,7 @@ pub struct FallbackLookups {
 }
 
 /// Lookups that are being collected.
-#[derive(Debug, Drop)]
+#[derive(Drop)]
 struct Collected {
     alloc: Global,
     lookups: Vec<Vec<u8>>,

@@ -1,5 +1,11 @@
 //! The features that Arabic and Syriac ask for, in their stages (OpenType, "Developing OpenType Fonts for Arabic Script").
 
+ghost use Rattle.std.specs.Prelude.{◌≡◌, codes, map, IfOk};
+ghost use Rattle.rb_common.specs.Tag.{tag_of};
+ghost use Rattle.ot_map.specs.Asked.{Asks, has_feature, in_stages};
+ghost use Rattle.script_joining.specs.ArabicFeatures.{arabic_features, ended_if, first_stages, form_feature};
+ghost use Rattle.script_joining.specs.ArabicFeatures.{form_flags, is_arabic, is_syriac, ligature_features};
+
 use ot_map::{FeatureFlags, LayoutPlan, Pause, PlanBuilder};
 use rb_common::{Script, Tag, script};
 use std::alloc::AllocError;
@@ -23,52 +29,100 @@ const MANUAL_JOINER_WITH_FALLBACK: FeatureFlags = FeatureFlags {
 };
 
 /// Asks for the features, each stage behind those before. Forms are in stages of their own, and ligatures behind them all.
-pub fn collect_features(
-    builder: &mut PlanBuilder,
-    script: Option<Script>,
-) -> Result<(), AllocError> {
-    let is_arabic = script == Some(script::ARABIC);
+pub fn collect_features(builder: &mut PlanBuilder, script: Option<Script>) -> Result<(), AllocError>
+    ensures { IfOk result (λ _. Asks
+        (arabic_features (is_arabic script) (has_feature builder.old (tag_of (codes "rclt")))) builder.old builder.new) }
+{
+    let is_arabic = is_arabic(script);
+    add_first_stages(builder)?;
+    add_forms(builder, &FORM_FEATURES, is_arabic)?;
+    builder.enable_feature(Tag::from_bytes(b"rlig"), MANUAL_JOINER_WITH_FALLBACK)?;
+    end_stage_if(builder, is_arabic, Pause::ArabicFallback)?;
+    add_ligatures(builder)?;
+    Ok(())
+}
+
+/// Whether a script is Arabic.
+fn is_arabic(script: Option<Script>) -> bool
+    ensures { result ≡ is_arabic script }
+{
+    match script {
+        Some(script) => script == script::ARABIC,
+        None => false,
+    }
+}
+
+/// Asks for the marks that are stretched, and what letters are composed of.
+fn add_first_stages(builder: &mut PlanBuilder) -> Result<(), AllocError>
+    ensures { IfOk result (λ _. Asks first_stages builder.old builder.new) }
+{
     builder.enable_feature(Tag::from_bytes(b"stch"), FeatureFlags::NONE)?;
     builder.add_gsub_pause(Pause::RecordStch)?;
     builder.enable_feature(Tag::from_bytes(b"ccmp"), MANUAL_JOINER)?;
     builder.enable_feature(Tag::from_bytes(b"locl"), MANUAL_JOINER)?;
     builder.add_gsub_pause(Pause::Nothing)?;
-    add_forms(builder, is_arabic)?;
-    builder.enable_feature(Tag::from_bytes(b"rlig"), MANUAL_JOINER_WITH_FALLBACK)?;
-    if is_arabic {
-        builder.add_gsub_pause(Pause::ArabicFallback)?;
-    }
-    add_ligatures(builder)
+    Ok(())
 }
 
 /// Asks for the features of forms, each in a stage of its own. Those of Arabic have a fallback.
-fn add_forms(builder: &mut PlanBuilder, is_arabic: bool) -> Result<(), AllocError> {
-    for name in FORM_FEATURES {
-        let flags = if is_arabic && !is_syriac(name) {
-            MANUAL_JOINER_WITH_FALLBACK
-        } else {
-            MANUAL_JOINER
-        };
+fn add_forms(
+    builder: &mut PlanBuilder,
+    names: &[&[u8; 4]],
+    is_arabic: bool,
+) -> Result<(), AllocError>
+    ensures { IfOk result
+        (λ _. Asks (in_stages (map (λ name. form_feature is_arabic name.now) names.now)) builder.old builder.new) }
+{
+    for name in names {
+        let flags = form_flags(name, is_arabic);
         builder.add_feature(Tag::from_bytes(name), flags, 1)?;
         builder.add_gsub_pause(Pause::Nothing)?;
     }
     Ok(())
 }
 
+/// How the feature of a form is applied.
+#[tactic(auto, unfolding(crate::specs::ArabicFeatures::form_flags))]
+fn form_flags(name: &[u8; 4], is_arabic: bool) -> FeatureFlags
+    ensures { result ≡ form_flags is_arabic name.now }
+{
+    if is_arabic && !is_syriac(name) {
+        MANUAL_JOINER_WITH_FALLBACK
+    } else {
+        MANUAL_JOINER
+    }
+}
+
 /// Whether only Syriac letters have the form: its feature ends with a number.
-fn is_syriac(name: &[u8; 4]) -> bool {
-    matches!(name[3], b'2' | b'3')
+fn is_syriac(name: &[u8; 4]) -> bool
+    ensures { result ≡ is_syriac name.now }
+{
+    name[3] == b'2' || name[3] == b'3'
+}
+
+/// Ends a stage, or does not.
+fn end_stage_if(builder: &mut PlanBuilder, ends: bool, pause: Pause) -> Result<(), AllocError>
+    ensures { IfOk result (λ _. Asks (ended_if ends pause) builder.old builder.new) }
+{
+    if !ends {
+        return Ok(());
+    }
+    builder.add_gsub_pause(pause)?;
+    Ok(())
 }
 
 /// Asks for contextual forms, and for ligatures behind them unless the font has contextual forms that it requires.
-fn add_ligatures(builder: &mut PlanBuilder) -> Result<(), AllocError> {
+fn add_ligatures(builder: &mut PlanBuilder) -> Result<(), AllocError>
+    ensures { IfOk result
+        (λ _. Asks (ligature_features (has_feature builder.old (tag_of (codes "rclt")))) builder.old builder.new) }
+{
     builder.enable_feature(Tag::from_bytes(b"calt"), MANUAL_JOINER)?;
-    if !builder.has_feature(Tag::from_bytes(b"rclt")) {
-        builder.add_gsub_pause(Pause::Nothing)?;
-    }
+    let requires_forms = builder.has_feature(Tag::from_bytes(b"rclt"));
+    end_stage_if(builder, !requires_forms, Pause::Nothing)?;
     builder.enable_feature(Tag::from_bytes(b"liga"), MANUAL_JOINER)?;
     builder.enable_feature(Tag::from_bytes(b"clig"), MANUAL_JOINER)?;
-    builder.enable_feature(Tag::from_bytes(b"mset"), MANUAL_JOINER)
+    builder.enable_feature(Tag::from_bytes(b"mset"), MANUAL_JOINER)?;
+    Ok(())
 }
 
 /// Whether the font has none of the forms of Arabic letters that a fallback makes.

@@ -15,7 +15,7 @@ const BELOW: u16 = 220;
 const ABOVE: u16 = 230;
 
 /// Neighbouring items: from a place to behind another.
-#[derive(Clone, Copy, Debug)]
+#[derive(Clone, Copy)]
 struct Run {
     start: usize,
     end: usize,

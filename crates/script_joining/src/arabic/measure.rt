@@ -13,7 +13,7 @@ pub(crate) const FIXED: u8 = 8;
 pub(crate) const REPEATING: u8 = 9;
 
 /// A mark in pieces that is stretched over the word before it.
-#[derive(Clone, Copy, Debug)]
+#[derive(Clone, Copy)]
 pub(crate) struct Stretch {
     /// Where the word begins.
     pub word: usize,
@@ -32,7 +32,7 @@ pub(crate) struct Stretch {
 }
 
 /// The widths of a mark's pieces, and of the word.
-#[derive(Clone, Copy, Debug, Default)]
+#[derive(Clone, Copy, Default)]
 struct Widths {
     word: i64,
     fixed: i64,
@@ -41,7 +41,7 @@ struct Widths {
 }
 
 /// How pieces are fitted to a word.
-#[derive(Clone, Copy, Debug)]
+#[derive(Clone, Copy)]
 struct Fit {
     /// How often each repeating piece is put in once more.
     copies: i64,

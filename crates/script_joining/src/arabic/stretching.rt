@@ -12,7 +12,7 @@ use shaping_buffer::{Direction, HB_BUFFER_SCRATCH_FLAG_SHAPER0, hb_buffer_t};
 use std::alloc::{AllocError, Global};
 
 /// The glyphs of a text in which marks are stretched, in the order of the buffer.
-#[derive(Debug, Drop)]
+#[derive(Drop)]
 struct Stretched {
     /// How often each glyph of the text stands in it.
     counts: Vec<usize>,

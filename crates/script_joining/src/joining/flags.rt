@@ -10,7 +10,7 @@ use crate::joining::kind::JoiningType::*;
 use shaping_buffer::{hb_buffer_t, hb_glyph_info_t};
 
 /// What a letter leaves to be said of the place before it.
-#[derive(Clone, Copy, PartialEq, Eq, Debug)]
+#[derive(Clone, Copy, PartialEq, Eq)]
 pub(crate) enum Tie {
     /// Nothing.
     Loose,
@@ -21,7 +21,7 @@ pub(crate) enum Tie {
 }
 
 /// The last letter that was read.
-#[derive(Clone, Copy, Debug)]
+#[derive(Clone, Copy)]
 struct LastLetter {
     /// Its place in the text; `None` where it stands before the text.
     place: Option<usize>,

@@ -8,7 +8,7 @@ use crate::joining::kind::JoiningType::*;
 
 /// How a letter is written by its neighbours, each form by the feature of OpenType that has it; and how a piece of a mark that is
 /// stretched over a word is.
-#[derive(Clone, Copy, PartialEq, Eq, Debug)]
+#[derive(Clone, Copy, PartialEq, Eq)]
 pub enum Form {
     /// It is no letter that joins.
     Unformed,

@@ -8,7 +8,7 @@ use crate::joining::rows::ROWS;
 use rb_glyph::row_search::{range_order, row_at};
 
 /// How a character joins its neighbours (Unicode, Joining_Type, and for two groups of Syriac letters Joining_Group).
-#[derive(Clone, Copy, PartialEq, Eq, Debug)]
+#[derive(Clone, Copy, PartialEq, Eq)]
 pub enum JoiningType {
     /// It joins on no side.
     NonJoining,

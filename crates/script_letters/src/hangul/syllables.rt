@@ -7,7 +7,7 @@ use crate::hangul::jamo::{composed, decomposed, is_leading, is_trailing, is_vowe
 use script_items::font::FontGlyphs;
 
 /// What is done with the characters at the cursor.
-#[derive(Clone, Copy, PartialEq, Eq, Debug)]
+#[derive(Clone, Copy, PartialEq, Eq)]
 pub(crate) enum Step {
     /// So many of them become one syllable.
     Compose(usize, u32),

@@ -14,7 +14,7 @@ use shaping_buffer::{HB_BUFFER_CLUSTER_LEVEL_MONOTONE_GRAPHEMES, hb_buffer_t, hb
 use std::alloc::AllocError;
 
 /// The syllable that was put out last: from its first character to behind its last. None where it is empty.
-#[derive(Clone, Copy, Debug)]
+#[derive(Clone, Copy)]
 pub(crate) struct Syllable {
     pub start: usize,
     pub end: usize,

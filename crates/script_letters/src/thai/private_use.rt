@@ -9,7 +9,7 @@ use script_items::font::FontGlyphs;
 use shaping_buffer::{hb_buffer_t, hb_glyph_info_t};
 
 /// A consonant, by what stands in the way of marks.
-#[derive(Clone, Copy, PartialEq, Eq, Debug)]
+#[derive(Clone, Copy, PartialEq, Eq)]
 enum Consonant {
     /// Nothing does.
     Plain,
@@ -24,7 +24,7 @@ enum Consonant {
 }
 
 /// A mark, by where it stands.
-#[derive(Clone, Copy, PartialEq, Eq, Debug)]
+#[derive(Clone, Copy, PartialEq, Eq)]
 enum Mark {
     /// A vowel above.
     AboveVowel,
@@ -35,7 +35,7 @@ enum Mark {
 }
 
 /// What is done with a glyph.
-#[derive(Clone, Copy, PartialEq, Eq, Debug)]
+#[derive(Clone, Copy, PartialEq, Eq)]
 enum Action {
     /// Nothing.
     Keep,
@@ -50,7 +50,7 @@ enum Action {
 }
 
 /// What is above a consonant.
-#[derive(Clone, Copy, PartialEq, Eq, Debug)]
+#[derive(Clone, Copy, PartialEq, Eq)]
 enum Above {
     /// Nothing.
     Free,
@@ -63,7 +63,7 @@ enum Above {
 }
 
 /// What is below a consonant.
-#[derive(Clone, Copy, PartialEq, Eq, Debug)]
+#[derive(Clone, Copy, PartialEq, Eq)]
 enum Below {
     /// Nothing.
     Free,
@@ -74,7 +74,7 @@ enum Below {
 }
 
 /// What stands around the consonant that was read last.
-#[derive(Clone, Copy, Debug)]
+#[derive(Clone, Copy)]
 struct Around {
     base: usize,
     above: Above,

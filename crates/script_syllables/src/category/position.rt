@@ -1,7 +1,7 @@
 //! Where a character stands in a syllable.
 
 /// Where a character stands in a syllable, from the left to the right as it is seen.
-#[derive(Clone, Copy, PartialEq, Eq, PartialOrd, Ord, Debug)]
+#[derive(Clone, Copy, PartialEq, Eq, PartialOrd, Ord)]
 pub enum Position {
     /// Before all others.
     Start,

@@ -7,7 +7,7 @@ ghost use Rattle.script_universal.specs.Stages.{khmer_pauses};
 use crate::khmer::plan::KhmerPlan;
 use ot_map::{FeatureFlags, LayoutPlan, Pause, PlanBuilder};
 use rb_common::Tag;
-use script_syllables::requests::add_all;
+use script_syllables::requests::{MANUAL_JOINERS, PER_SYLLABLE, PRESENTATION_FEATURES, add_all};
 use std::alloc::AllocError;
 
 /// The basic features, all in one stage, and whether every glyph has it.
@@ -18,27 +18,6 @@ const BASIC_FEATURES: [(&[u8; 4], bool); 5] = [
     (b"pstf", false),
     (b"cfar", false),
 ];
-
-/// The features after syllables are forgotten, and whether every glyph has it.
-const OTHER_FEATURES: [(&[u8; 4], bool); 4] = [
-    (b"pres", true),
-    (b"abvs", true),
-    (b"blws", true),
-    (b"psts", true),
-];
-
-/// A match ends with its syllable.
-const PER_SYLLABLE: FeatureFlags = FeatureFlags {
-    per_syllable: true,
-    ..FeatureFlags::NONE
-};
-
-/// A match passes over no joiner.
-const MANUAL_JOINERS: FeatureFlags = FeatureFlags {
-    manual_zwnj: true,
-    manual_zwj: true,
-    ..FeatureFlags::NONE
-};
 
 /// Asks for the features, with the pauses at which syllables are found and reordered.
 pub fn collect_features(builder: &mut PlanBuilder) -> Result<(), AllocError>
@@ -54,7 +33,7 @@ pub fn collect_features(builder: &mut PlanBuilder) -> Result<(), AllocError>
     };
     add_all(builder, &BASIC_FEATURES, flags)?;
     builder.add_gsub_pause(Pause::Nothing)?;
-    add_all(builder, &OTHER_FEATURES, MANUAL_JOINERS)
+    add_all(builder, &PRESENTATION_FEATURES, MANUAL_JOINERS)
 }
 
 /// Asks for contextual ligatures, which Khmer requires, and turns standard ligatures off.

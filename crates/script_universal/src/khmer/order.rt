@@ -5,11 +5,13 @@ ghost use Rattle.glyph_lists.specs.Clusters.{clusters};
 ghost use Rattle.shaping_buffer.specs.KeepsClusters.{KeepsClusters};
 ghost use Rattle.script_syllables.specs.KeepsNumbers.{KeepsNumbers};
 
-use crate::khmer::plan::{BROKEN, KhmerPlan};
+use crate::khmer::plan::KhmerPlan;
+use crate::pauses::BROKEN;
 use script_syllables::Category;
 use script_syllables::clusters::merge;
 use script_syllables::item::{add_mask, category};
 use script_syllables::moves::move_last;
+use script_syllables::reordering::SyllableOrder;
 use script_syllables::syllables::kind_at;
 use shaping_buffer::{hb_buffer_t, hb_glyph_info_t};
 use std::ops::Range;
@@ -17,23 +19,12 @@ use std::ops::Range;
 /// How many coengs of a syllable there may be before one that is looked at.
 const MOST_COENGS: usize = 2;
 
-/// Puts the glyphs of each syllable in order.
-#[tactic(auto, using(script_syllables::proofs::NumbersLemmas::numbered))]
-pub(crate) fn order_syllables(buffer: &mut hb_buffer_t, plan: &KhmerPlan)
-    requires { buffer.old.have_output ≡ false }
-    ensures closed { buffer.new.have_output ≡ false }
-    ensures keeps { KeepsNumbers buffer.old buffer.new }
-{
-    let mut start = 0;
-    for _turn in 0..buffer.len() {
-        if start >= buffer.len() {
-            break;
+impl SyllableOrder for KhmerPlan {
+    #[tactic(auto, using(script_syllables::proofs::NumbersLemmas::numbered))]
+    fn reorder_syllable(&self, buffer: &mut hb_buffer_t, range: &Range<usize>) {
+        if kind_at(buffer.info(), range.start) <= BROKEN {
+            order_syllable(buffer, range, self);
         }
-        let end = buffer.next_syllable(start);
-        if kind_at(buffer.info(), start) <= BROKEN {
-            order_syllable(buffer, &(start..end), plan);
-        }
-        start = end;
     }
 }
 
@@ -92,7 +83,7 @@ fn mask_behind_first(buffer: &mut hb_buffer_t, range: &Range<usize>, plan: &Khme
 }
 
 /// What stands at a place of a syllable.
-#[derive(Clone, Copy, PartialEq, Eq, Debug)]
+#[derive(Clone, Copy, PartialEq, Eq)]
 enum Part {
     /// A vowel sign on the left.
     VowelPre,

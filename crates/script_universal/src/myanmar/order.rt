@@ -6,33 +6,24 @@ ghost use Rattle.glyph_lists.specs.Clusters.{clusters};
 ghost use Rattle.shaping_buffer.specs.KeepsClusters.{KeepsClusters};
 ghost use Rattle.script_syllables.specs.KeepsNumbers.{KeepsNumbers};
 
-use crate::myanmar::plan::BROKEN;
+use crate::myanmar::plan::MyanmarShaper;
 use crate::myanmar::positions::set_positions;
+use crate::pauses::BROKEN;
 use script_syllables::clusters::merge;
 use script_syllables::item::{category, position};
 use script_syllables::moves::{move_last, turn};
+use script_syllables::reordering::SyllableOrder;
 use script_syllables::syllables::{kind_at, within};
 use script_syllables::{Category, Position};
 use shaping_buffer::{hb_buffer_t, hb_glyph_info_t};
 use std::ops::Range;
 
-/// Puts the glyphs of each syllable in order.
-#[tactic(auto, using(script_syllables::proofs::NumbersLemmas::numbered))]
-pub(crate) fn order_syllables(buffer: &mut hb_buffer_t)
-    requires { buffer.old.have_output ≡ false }
-    ensures closed { buffer.new.have_output ≡ false }
-    ensures keeps { KeepsNumbers buffer.old buffer.new }
-{
-    let mut start = 0;
-    for _turn in 0..buffer.len() {
-        if start >= buffer.len() {
-            break;
+impl SyllableOrder for MyanmarShaper {
+    #[tactic(auto, using(script_syllables::proofs::NumbersLemmas::numbered))]
+    fn reorder_syllable(&self, buffer: &mut hb_buffer_t, range: &Range<usize>) {
+        if kind_at(buffer.info(), range.start) <= BROKEN {
+            order_syllable(buffer, range);
         }
-        let end = buffer.next_syllable(start);
-        if kind_at(buffer.info(), start) <= BROKEN {
-            order_syllable(buffer, &(start..end));
-        }
-        start = end;
     }
 }
 

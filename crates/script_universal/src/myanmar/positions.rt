@@ -3,7 +3,7 @@
 ghost use Rattle.std.specs.Prelude.{◌≡◌};
 ghost use Rattle.glyph_lists.specs.Clusters.{clusters};
 
-use script_syllables::item::{category, is_ligated, position, set_position};
+use script_syllables::item::{category, is_consonant, position, set_position};
 use script_syllables::{Category, Position};
 use shaping_buffer::hb_glyph_info_t;
 
@@ -50,20 +50,6 @@ fn base_of(syllable: &[hb_glyph_info_t], kinzi: usize) -> usize {
         }
     }
     kinzi
-}
-
-/// Whether an item is a consonant, or what takes signs as one.
-fn is_consonant(info: &hb_glyph_info_t) -> bool {
-    !is_ligated(info)
-        && matches!(
-            category(info),
-            Category::Consonant
-                | Category::ConsonantWithStacker
-                | Category::Ra
-                | Category::Vowel
-                | Category::Placeholder
-                | Category::DottedCircle
-        )
 }
 
 /// Gives the signs behind the base their positions.

@@ -7,7 +7,7 @@ ghost use Rattle.script_universal.specs.Stages.{universal_pauses, universal_paus
 use crate::universal::plan::{FormMasks, UniversalPlan};
 use ot_map::{FeatureFlags, LayoutPlan, Pause, PlanBuilder};
 use rb_common::Tag;
-use script_syllables::requests::add_all;
+use script_syllables::requests::{MANUAL_JOINER, PER_SYLLABLE, add_all};
 use std::alloc::AllocError;
 
 /// The features of single letters, and whether every glyph has it.
@@ -40,18 +40,6 @@ const OTHER_FEATURES: [(&[u8; 4], bool); 5] = [
     (b"pres", true),
     (b"psts", true),
 ];
-
-/// A match ends with its syllable.
-const PER_SYLLABLE: FeatureFlags = FeatureFlags {
-    per_syllable: true,
-    ..FeatureFlags::NONE
-};
-
-/// An input passes over no joiner.
-const MANUAL_JOINER: FeatureFlags = FeatureFlags {
-    manual_zwj: true,
-    ..FeatureFlags::NONE
-};
 
 /// An input passes over no joiner, and ends with its syllable.
 const WITHIN_SYLLABLE: FeatureFlags = FeatureFlags {

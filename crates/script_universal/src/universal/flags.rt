@@ -17,7 +17,7 @@ pub trait FormLookup {
 }
 
 /// A syllable that joins the one before it, or begins a word.
-#[derive(Clone, Copy, Debug)]
+#[derive(Clone, Copy)]
 struct Joined {
     /// Where it begins.
     start: usize,

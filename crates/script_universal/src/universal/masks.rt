@@ -53,7 +53,7 @@ fn mask_reph(infos: &mut [hb_glyph_info_t], start: usize, end: usize, mask: u32)
 }
 
 /// How a syllable stands in its word, as far as it was read.
-#[derive(Clone, Copy, PartialEq, Eq, Debug)]
+#[derive(Clone, Copy, PartialEq, Eq)]
 enum Form {
     /// It is none that joins.
     Unformed,

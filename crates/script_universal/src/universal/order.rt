@@ -4,9 +4,10 @@ ghost use Rattle.std.specs.Prelude.{◌≡◌, false};
 ghost use Rattle.script_syllables.specs.KeepsNumbers.{KeepsNumbers};
 
 use crate::universal::item::{is, is_behind_base, is_halant};
-use crate::universal::plan::BROKEN;
+use crate::universal::plan::{BROKEN, UniversalPlan};
 use script_syllables::clusters::merge;
 use script_syllables::moves::{move_first, move_last};
+use script_syllables::reordering::SyllableOrder;
 use script_syllables::syllables::{kind_at, syllable};
 use shaping_buffer::{hb_buffer_t, hb_glyph_info_t};
 use std::ops::Range;
@@ -17,24 +18,13 @@ const STANDARD: u8 = 2;
 
 const SYMBOL: u8 = 5;
 
-/// Puts the glyphs of each syllable in order.
-#[tactic(auto, using(script_syllables::proofs::NumbersLemmas::numbered))]
-pub(crate) fn order_syllables(buffer: &mut hb_buffer_t)
-    requires { buffer.old.have_output ≡ false }
-    ensures closed { buffer.new.have_output ≡ false }
-    ensures keeps { KeepsNumbers buffer.old buffer.new }
-{
-    let mut start = 0;
-    for _turn in 0..buffer.len() {
-        if start >= buffer.len() {
-            break;
+impl SyllableOrder for UniversalPlan {
+    #[tactic(auto, using(script_syllables::proofs::NumbersLemmas::numbered))]
+    fn reorder_syllable(&self, buffer: &mut hb_buffer_t, range: &Range<usize>) {
+        if is_reordered(kind_at(buffer.info(), range.start)) {
+            move_repha(buffer, range);
+            move_fronts(buffer, range);
         }
-        let end = buffer.next_syllable(start);
-        if is_reordered(kind_at(buffer.info(), start)) {
-            move_repha(buffer, &(start..end));
-            move_fronts(buffer, &(start..end));
-        }
-        start = end;
     }
 }
 

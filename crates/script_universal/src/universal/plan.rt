@@ -7,11 +7,11 @@ ghost use Rattle.script_syllables.specs.KeepsNumbers.{KeepsNumbers};
 use crate::universal::item::mark_passed_over;
 use crate::universal::machine::universal_machine;
 use crate::universal::masks::{mask_forms, mask_rephs};
-use crate::universal::order::order_syllables;
-use crate::universal::recorded::{forget_substitutions, record_prefs, record_rephs};
+use crate::universal::recorded::{Recorded, forget_substitutions, record_made};
 use ot_map::Pause;
-use script_syllables::dotted_circle::{CircleKind, insert_dotted_circles};
+use script_syllables::dotted_circle::CircleKind;
 use script_syllables::grammar::Grammar;
+use script_syllables::reordering::reorder;
 use script_syllables::syllables::find_syllables;
 use script_syllables::{FontForms, Position};
 use shaping_buffer::hb_buffer_t;
@@ -28,8 +28,14 @@ const CIRCLE: CircleKind = CircleKind {
     broken: BROKEN,
 };
 
+/// What `pref` makes of glyphs: vowel signs in front.
+const RECORDED_PREF: Recorded = Recorded {
+    mask: None,
+    category: UniversalCategory::VowelPre,
+};
+
 /// How a text of the universal shaper is shaped by a font.
-#[derive(Clone, Copy, PartialEq, Eq, Debug, Default)]
+#[derive(Clone, Copy, PartialEq, Eq, Default)]
 pub struct UniversalPlan {
     /// The mask of rephs.
     pub rphf: u32,
@@ -39,7 +45,7 @@ pub struct UniversalPlan {
 }
 
 /// The masks of syllables by where they stand in a word.
-#[derive(Clone, Copy, PartialEq, Eq, Debug, Default)]
+#[derive(Clone, Copy, PartialEq, Eq, Default)]
 pub struct FormMasks {
     /// Alone.
     pub isol: u32,
@@ -74,13 +80,21 @@ impl UniversalPlan {
         match pause {
             Pause::SetUpSyllables => self.setup_syllables(buffer),
             Pause::ClearSubstitutionFlags => forget_substitutions(buffer),
-            Pause::RecordRphf => record_rephs(buffer, self.rphf),
-            Pause::RecordPref => record_prefs(buffer),
-            Pause::InitialReordering => return reordering(buffer, font),
+            Pause::RecordRphf => record_made(buffer, self.recorded_reph()),
+            Pause::RecordPref => record_made(buffer, RECORDED_PREF),
+            Pause::InitialReordering => return reorder(buffer, font, CIRCLE, self),
             Pause::FinalReordering | Pause::Nothing | Pause::RecordStch | Pause::ArabicFallback =>
                 {}
         }
         Ok(true)
+    }
+
+    /// What `rphf` makes of glyphs with its mask at the start of a syllable.
+    fn recorded_reph(&self) -> Recorded {
+        Recorded {
+            mask: Some(self.rphf),
+            category: UniversalCategory::Repha,
+        }
     }
 
     /// Finds the syllables, before the first lookups.
@@ -100,18 +114,4 @@ impl UniversalPlan {
         mask_rephs(buffer, self.rphf);
         mask_forms(buffer, &self.forms);
     }
-}
-
-/// Puts the glyphs of each syllable in order.
-#[tactic(auto, using(script_syllables::proofs::NumbersLemmas::numbered))]
-fn reordering<F: FontForms>(buffer: &mut hb_buffer_t, font: &F) -> Result<bool, AllocError>
-    requires { buffer.old.have_output ≡ false }
-    ensures closed { IfOk result (λ done. done ≡ true → buffer.new.have_output ≡ false) }
-    ensures keeps { KeepsNumbers buffer.old buffer.new }
-{
-    if !insert_dotted_circles(buffer, font, CIRCLE)? {
-        return Ok(false);
-    }
-    order_syllables(buffer);
-    Ok(true)
 }

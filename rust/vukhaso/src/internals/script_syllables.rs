@@ -21,6 +21,7 @@ pub mod grammar;
 pub mod item;
 pub mod machine;
 pub mod moves;
+pub mod reordering;
 pub mod requests;
 pub mod syllables;
 pub mod vowel_sequences;

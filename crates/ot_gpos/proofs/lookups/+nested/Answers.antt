@@ -2,11 +2,11 @@ use Rattle.std.proofs.Common.{◌≡◌, ℕ, ◌+◌, ◌-◌, ◌*◌, ◌<◌
 use Rattle.shaping_buffer.specs.State.{State}
 use Rattle.ot_layout.specs.declared.budget.Budget.{Budget}
 use Rattle.ot_layout.specs.declared.search.Search.{Search}
-use Rattle.ot_layout.proofs.EditLemmas.{next_of_each}
+use Rattle.ot_contexts.proofs.NextLemmas.{next_of_each}
 use Rattle.ot_lookups.specs.LookupProps.{glyph_at}
 use Rattle.ot_gpos.specs.Attachments.{HasNoPixels}
 use Rattle.ot_gpos.specs.Contexts.{AreDone, ahead, looked_at, named, record_done}
-use Rattle.ot_gpos.specs.Flags.{break_marked}
+use Rattle.ot_attachments.specs.Flags.{break_marked}
 use Rattle.ot_gpos.specs.Lookups.{Applied, Text, applied, outcome, text_of}
 use Rattle.ot_gpos.specs.Nested.{AreTried, IsVisited, nested}
 use Rattle.ot_gpos.specs.Visit.{visit_of}

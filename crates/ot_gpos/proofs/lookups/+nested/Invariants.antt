@@ -2,7 +2,7 @@ use Rattle.std.proofs.Common.{◌≡◌, ◌+◌, ◌*◌, ◌<◌, drop, false}
 use Rattle.std.specs.Prelude.{IsSome}
 use Rattle.ot_gpos.specs.Attachments.{HasNoPixels}
 use Rattle.ot_gpos.specs.Contexts.{AreDone, record_done}
-use Rattle.ot_gpos.specs.Flags.{KeepsBits, untouched}
+use Rattle.ot_attachments.specs.Flags.{KeepsBits, untouched}
 use Rattle.ot_gpos.specs.Lookups.{Outcome, applied, text_of}
 use Rattle.ot_gpos.specs.Nested.{AreTried, nested}
 use Rattle.ot_layout.specs.Budget.{IsNotMore}

@@ -2,7 +2,7 @@ use Rattle.std.proofs.Common.{◌≡◌, ◌<◌, ◌≤◌, false}
 use Rattle.std.specs.Prelude.{IsSome}
 use Rattle.ot_layout.specs.Budget.{IsNotMore}
 use Rattle.ot_gpos.specs.Attachments.{HasNoPixels, nothing_sought}
-use Rattle.ot_gpos.specs.Flags.{KeepsBits, untouched}
+use Rattle.ot_attachments.specs.Flags.{KeepsBits, untouched}
 use Rattle.ot_gpos.specs.Lookups.{applied, text_of}
 use Rattle.ot_gpos.proofs.RunsLemmas.{IsUnderWay}
 use Rattle.ot_gpos.proofs.lookups.place_by_all.Given as goal

@@ -2,7 +2,7 @@ use Rattle.std.proofs.Common.{sym, subst, ◌∙◌}
 use Rattle.std.specs.Prelude.{slice_get}
 use Rattle.shaping_buffer.specs.State.{State}
 use Rattle.ot_gpos.specs.Runs.{IsPositioned}
-use Rattle.ot_gpos.proofs.FlagLemmas.{keeps_by}
+use Rattle.ot_attachments.proofs.FlagLemmas.{keeps_by}
 use Rattle.ot_gpos.proofs.lookups.position.Goals as goal
 
 pub returns-clause-keeps : goal.returns-clause-keeps

@@ -1,9 +1,8 @@
 use Rattle.std.proofs.Common.{◌≡◌, ◌-◌}
 use Rattle.ot_lookups.specs.Lookup.{is_for}
 use Rattle.ot_lookups.specs.LookupProps.{glyph_at}
-use Rattle.ot_gpos.specs.Adjustments.{behind}
-use Rattle.ot_gpos.specs.PairAdjustments.{some_place}
 use Rattle.ot_gpos.proofs.pairs.passes_over_first.Given as goal
+use Rattle.ot_attachments.specs.Places.{behind, some_place}
 
 -- the places that are left pass the test as all do
 abbrev pub invariant-loop-place : goal.invariant-loop-place

@@ -1,5 +1,5 @@
 use Rattle.std.proofs.Common.{Option, true, ap, refl, sym, ◌∙◌}
-use Rattle.ot_layout.specs.declared.substitution.Edit.{Edit}
+use Rattle.ot_substitution.specs.declared.substitution.Edit.{Edit}
 use Rattle.ot_gsub.specs.Changes.{glyph_numbers}
 use Rattle.ot_gsub.specs.Runs.{made_if}
 use Rattle.ot_gsub.proofs.ChangesLemmas.{glyph_numbers-mark_around, tells_changed, tells_passed}

@@ -13,6 +13,7 @@ use vukhaso::internals::glyph::NoGlyphNames;
 const IDS: usize = 30000;
 
 /// A buffer that a pass goes over. It is used again from run to run.
+#[derive(Debug)]
 pub struct PassItem {
     pass: Pass,
     size: usize,
@@ -36,12 +37,8 @@ impl PassItem {
 
 impl Item for PassItem {
     fn prepare(&mut self) -> crate::anyhow::Result<()> {
-        let mut buffer = mem::replace(&mut self.buffer, hb_buffer_t::new());
-        if buffer.have_output() {
-            bail!("a call was refused");
-        }
-        buffer.clear_positions();
-        let characters = GlyphBuffer::from_buffer(buffer).clear();
+        let buffer = mem::replace(&mut self.buffer, hb_buffer_t::new());
+        let characters = shaped(buffer)?.clear();
         self.buffer = filled(characters, self.size, self.pass.clusters())?;
         if self.pass.has_positions() && !self.buffer.have_output() {
             self.buffer.clear_positions();
@@ -61,6 +58,7 @@ impl Item for PassItem {
 }
 
 /// A buffer of shaped glyphs that is written as a text.
+#[derive(Debug)]
 pub struct TextItem {
     buffer: GlyphBuffer,
     has_positions: bool,
@@ -72,13 +70,9 @@ impl TextItem {
     /// That it returns.
     #[inline]
     pub fn new(size: usize, has_positions: bool) -> crate::anyhow::Result<TextItem> {
-        let mut buffer = filled(UnicodeBuffer::new(), size, Clusters::Single)?;
-        if buffer.have_output() {
-            bail!("a call was refused");
-        }
-        buffer.clear_positions();
+        let buffer = filled(UnicodeBuffer::new(), size, Clusters::Single)?;
         Ok(TextItem {
-            buffer: GlyphBuffer::from_buffer(buffer),
+            buffer: shaped(buffer)?,
             has_positions,
         })
     }
@@ -99,6 +93,20 @@ impl Item for TextItem {
         };
         Ok(low_bits(text.len()))
     }
+}
+
+/// The glyphs of a buffer, with positions.
+///
+/// # Proved
+///
+/// That it returns.
+#[inline]
+pub fn shaped(mut buffer: hb_buffer_t) -> crate::anyhow::Result<GlyphBuffer> {
+    if buffer.have_output() {
+        bail!("a call was refused");
+    }
+    buffer.clear_positions();
+    Ok(GlyphBuffer::from_buffer(buffer))
 }
 
 /// The glyphs 1 to 30000 in turn, as many as asked for, as `push_str` would leave them.

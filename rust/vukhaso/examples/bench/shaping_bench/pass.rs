@@ -7,7 +7,7 @@ use vukhaso::internals::buffer::hb_buffer_t;
 use vukhaso::memory::AllocError;
 
 /// A pass of calls over a list of glyphs.
-#[derive(Clone, Copy, PartialEq, Eq)]
+#[derive(Clone, Copy, PartialEq, Eq, Debug)]
 pub enum Pass {
     NextGlyphSync,
     NextGlyphsSync,
@@ -33,7 +33,7 @@ pub enum Pass {
 }
 
 /// In which order the cluster numbers of a list stand.
-#[derive(Clone, Copy)]
+#[derive(Clone, Copy, Debug)]
 pub enum Clusters {
     /// Each glyph is a cluster of its own.
     Single,

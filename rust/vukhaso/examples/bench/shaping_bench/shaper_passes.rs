@@ -3,11 +3,11 @@
 //! Passes of a shaper over a list of glyphs, each as one value, and the lists that they go over.
 
 use crate::anyhow::bail;
-use crate::shaping_bench::item::{last_id, low_bits};
+use crate::shaping_bench::item::{last_id, low_bits, shaped};
 use crate::shaping_bench::measuring::Item;
 use crate::shaping_bench::shaper_tables::Tables;
 use std::mem;
-use vukhaso::internals::buffer::{CombiningClasses, GlyphBuffer, UnicodeBuffer, hb_buffer_t};
+use vukhaso::internals::buffer::{CombiningClasses, UnicodeBuffer, hb_buffer_t};
 use vukhaso::internals::passes::{
     compose_marks, decompose_all, hide_default_ignorables, line_ends, order_marks,
 };
@@ -41,7 +41,7 @@ const ADVANCE: i32 = 600;
 const WIDTHS: [i64; 1] = [36_000];
 
 /// A pass of a shaper.
-#[derive(Clone, Copy)]
+#[derive(Clone, Copy, Debug)]
 pub enum ShaperPass {
     DecomposeAll,
     OrderMarks,
@@ -122,6 +122,7 @@ fn count_lines(buffer: &hb_buffer_t) -> Result<Option<usize>, AllocError> {
 }
 
 /// A buffer that a pass of a shaper goes over. It is used again from run to run.
+#[derive(Debug)]
 pub struct ShaperItem<'a> {
     pass: ShaperPass,
     tables: &'a Tables<'a>,
@@ -147,12 +148,8 @@ impl<'a> ShaperItem<'a> {
 
 impl<'a> Item for ShaperItem<'a> {
     fn prepare(&mut self) -> crate::anyhow::Result<()> {
-        let mut buffer = mem::replace(&mut self.buffer, hb_buffer_t::new());
-        if buffer.have_output() {
-            bail!("a call was refused");
-        }
-        buffer.clear_positions();
-        let characters = GlyphBuffer::from_buffer(buffer).clear();
+        let buffer = mem::replace(&mut self.buffer, hb_buffer_t::new());
+        let characters = shaped(buffer)?.clear();
         self.buffer = filled(characters, self.size, self.pass.characters())?;
         if self.buffer.have_output() {
             bail!("a call was refused");

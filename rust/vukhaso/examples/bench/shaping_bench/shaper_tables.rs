@@ -6,6 +6,7 @@ use vukhaso::internals::buffer::{CombiningClasses, Compositions, Decompositions}
 use vukhaso::internals::unicode_tables::UnicodeRows;
 
 /// The tables over the rows of the Unicode Character Database.
+#[derive(Debug)]
 pub struct Tables<'a> {
     pub classes: CombiningClasses<'a>,
     pub decompositions: Decompositions<'a>,

@@ -113,6 +113,7 @@ pub fn rows(keys: &[String]) -> Result<Vec<(&str, Tag)>, AllocError> {
 }
 
 /// Pairs whose tags are asked for in turn.
+#[derive(Debug)]
 pub struct TagsItem<'a> {
     pairs: &'a [Pair],
     table: LanguageTable<'a>,

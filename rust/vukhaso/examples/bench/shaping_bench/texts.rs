@@ -54,6 +54,7 @@ fn push_first(text: &mut String, count: usize) -> Result<(), AllocError> {
 }
 
 /// A text that is pushed into a new buffer. The buffer is freed before the next run, and this is not timed.
+#[derive(Debug)]
 pub struct NewTextItem<'a> {
     text: &'a str,
     buffer: Option<UnicodeBuffer>,
@@ -84,6 +85,7 @@ impl<'a> Item for NewTextItem<'a> {
 }
 
 /// A text that is pushed into a buffer that had it before.
+#[derive(Debug)]
 pub struct ReusedTextItem<'a> {
     text: &'a str,
     buffer: UnicodeBuffer,
@@ -122,6 +124,7 @@ fn push(buffer: &mut UnicodeBuffer, text: &str) -> crate::anyhow::Result<u32> {
 }
 
 /// Texts of features, of which some are read.
+#[derive(Debug)]
 pub struct FeaturesItem<'a> {
     texts: &'a [&'a str],
     size: usize,

@@ -6,7 +6,7 @@ use crate::shaping_bench::pass::Pass;
 use crate::shaping_bench::shaper_passes::ShaperPass;
 
 /// What is measured.
-#[derive(Clone, Copy)]
+#[derive(Clone, Copy, Debug)]
 pub enum Workload {
     /// A text that is pushed into a new buffer.
     NewText,

@@ -10,6 +10,7 @@ use vukhaso::internals::text::Script;
 use vukhaso::memory::{AllocError, Vec};
 
 /// What a line asks for.
+#[derive(Debug)]
 pub enum Command<'a> {
     /// `push T`: put the characters of a text at the end.
     Push(&'a str),

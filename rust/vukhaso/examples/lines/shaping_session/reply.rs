@@ -6,6 +6,7 @@ use vukhaso::internals::runs::Answer;
 use vukhaso::memory::String;
 
 /// The text of an answer.
+#[derive(Debug)]
 pub enum Reply {
     /// One of the program's own words.
     Word(&'static str),

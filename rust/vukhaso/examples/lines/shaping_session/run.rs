@@ -9,7 +9,7 @@ use std::io::{ErrorKind, Read, Write};
 use vukhaso::memory::{AllocError, Vec};
 
 /// Why a run ended early.
-#[derive(Clone, Copy, Debug, PartialEq, Eq)]
+#[derive(Clone, Copy, PartialEq, Eq, Debug)]
 pub enum RunFault {
     /// The reader failed, or did not end. Nothing was written.
     Read = 1,

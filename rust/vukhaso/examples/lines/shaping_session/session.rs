@@ -14,6 +14,7 @@ use vukhaso::internals::runs::{Call, make_call};
 use vukhaso::memory::{AllocError, String};
 
 /// A text that grows, and then the buffer that it was turned into.
+#[derive(Debug)]
 pub enum Session {
     Text(UnicodeBuffer),
     Turned(hb_buffer_t),

@@ -13,6 +13,7 @@ use vukhaso::internals::common::Script;
 /// ghost Value = { Option (List ℕ) }
 /// ghost view = { λ w. option_copied w.rest }
 /// ```
+#[derive(Debug)]
 pub struct Words<'a> {
     rest: Option<&'a str>,
 }

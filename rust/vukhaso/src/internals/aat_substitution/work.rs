@@ -2,7 +2,6 @@
 
 //! What is carried from subtable to subtable while a text is shaped.
 
-use crate::aat_tables::metamorphosis::all_glyphs;
 use crate::glyph::hb_glyph_info_t;
 use crate::glyph_digests::Digest;
 use crate::ot_layout::Budget;
@@ -31,7 +30,7 @@ impl Work {
             digest: if glyphs.len() < DIGEST_THRESHOLD {
                 Digest::of_glyphs(glyphs)
             } else {
-                all_glyphs()
+                Digest::full()
             },
         }
     }

@@ -10,9 +10,6 @@ use crate::font_tables::rows::rows_within;
 /// The bit of a feature's flags that says that of its settings one alone is on.
 const EXCLUSIVE: u16 = 0x8000;
 
-/// The bit of a feature's flags that says that they name the setting which is on by default.
-const NOT_DEFAULT: u16 = 0x4000;
-
 /// A feature of a font.
 #[derive(Clone, Copy, PartialEq, Eq, Debug)]
 pub struct FeatureName<'a> {
@@ -51,22 +48,6 @@ impl FeatureName<'_> {
             u16_at(self.settings, 4 * usize::from(place))
         } else {
             None
-        }
-    }
-
-    /// The place of the setting that is on by default, where one alone is on.
-    ///
-    /// # Proved
-    ///
-    /// ```text
-    /// ensures { result ≡ default_place self.now.flags }
-    /// ```
-    #[inline]
-    pub fn default_place(&self) -> u16 {
-        if self.flags / NOT_DEFAULT % 2 == 1 {
-            self.flags % 256
-        } else {
-            0
         }
     }
 }

@@ -325,7 +325,7 @@ impl<'a> Metamorphosis<'a> {
             Some(machine) if kind != SubtableKind::Noncontextual => {
                 self.digest_of_classes(&machine.classes)
             }
-            _ => all_glyphs(),
+            _ => Digest::full(),
         }
     }
 
@@ -333,24 +333,10 @@ impl<'a> Metamorphosis<'a> {
     fn digest_of_classes(&mut self, classes: &Lookup) -> Digest {
         let cost = classes.cost();
         if cost > self.room {
-            return all_glyphs();
+            return Digest::full();
         }
         self.room -= cost;
         classes.digest()
-    }
-}
-
-/// The digest of all glyphs.
-///
-/// # Proved
-///
-/// That it returns.
-#[inline]
-pub fn all_glyphs() -> Digest {
-    Digest {
-        singles: u64::MAX,
-        sixteens: u64::MAX,
-        blocks: u64::MAX,
     }
 }
 

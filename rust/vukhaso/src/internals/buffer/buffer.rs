@@ -65,6 +65,7 @@ mod replacement;
 /// } }
 /// ghost invariant = { IsConsistent }
 /// ```
+#[derive(Debug)]
 pub struct hb_buffer_t {
     /// How the text is to be treated.
     pub flags: BufferFlags,

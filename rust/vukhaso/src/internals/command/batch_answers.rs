@@ -16,6 +16,7 @@ use crate::options::batch::words_of_line;
 use crate::options::words::options_of;
 
 /// How the lines of one font were answered.
+#[derive(Debug)]
 struct Run {
     /// Whether a line of another font was read.
     has_line: bool,

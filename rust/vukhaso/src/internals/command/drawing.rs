@@ -13,6 +13,7 @@ use crate::options::options::{LineOptions, Options};
 use crate::ot_shape::{Face, FaceNames, ShapeError, Step, Watch, shape_watched};
 
 /// A picture, to which each step of shaping adds a row.
+#[derive(Debug)]
 struct Drawing {
     picture: Picture,
 }

@@ -35,6 +35,7 @@ pub struct Answered {
 }
 
 /// What lines are answered by that changes from line to line.
+#[derive(Debug)]
 pub struct LineState<'a, N> {
     /// Names and extents of glyphs.
     pub names: N,
@@ -45,7 +46,7 @@ pub struct LineState<'a, N> {
 }
 
 /// A font, and how lines are shaped with it and printed.
-#[derive(Clone, Copy)]
+#[derive(Clone, Copy, Debug)]
 pub struct LineShaper<'a> {
     /// The font.
     pub face: &'a Face<'a>,

@@ -11,7 +11,7 @@ use crate::font_tables::bytes::u32_at;
 use core::cmp::Ordering;
 
 /// The groups of a subtable.
-#[derive(Clone, Copy)]
+#[derive(Clone, Copy, Debug)]
 struct Groups<'a>(&'a [u8]);
 
 ///

@@ -11,7 +11,7 @@ use crate::font_cmap::subtable::{first_subtable_glyphs, subtable_glyph};
 use crate::font_cmap::variations::{GlyphVariant, glyph_variant};
 
 /// A subtable, and what its codes stand for.
-#[derive(Clone, Copy)]
+#[derive(Clone, Copy, Debug)]
 struct Codes<'a> {
     subtable: &'a [u8],
     encoding: Encoding,

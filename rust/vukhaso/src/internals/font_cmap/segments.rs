@@ -10,7 +10,7 @@ use crate::font_tables::bytes::u16_at;
 use core::cmp::Ordering;
 
 /// The segments of a subtable.
-#[derive(Clone, Copy)]
+#[derive(Clone, Copy, Debug)]
 struct Segments<'a>(&'a [u8]);
 
 ///

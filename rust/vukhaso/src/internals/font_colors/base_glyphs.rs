@@ -9,7 +9,7 @@ use crate::font_variations::VariationStore;
 use crate::font_variations::index_map::IndexMap;
 
 /// Layers of a glyph, each of which is a glyph that is filled with one colour.
-#[derive(Clone, Copy)]
+#[derive(Clone, Copy, Debug)]
 pub(crate) struct Layers {
     /// The number of the first layer.
     pub first: u16,

@@ -73,7 +73,7 @@ impl<'a> CbdtTables<'a> {
 }
 
 /// The strikes of a table `CBLC`.
-#[derive(Clone, Copy)]
+#[derive(Clone, Copy, Debug)]
 struct BitmapSizes<'a> {
     cblc: &'a [u8],
 }

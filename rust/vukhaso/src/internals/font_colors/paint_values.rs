@@ -8,7 +8,7 @@ use crate::font_variations::rounding::float;
 use crate::numbers::ToSigned;
 
 /// The numbers of a paint, and where they vary.
-#[derive(Clone, Copy)]
+#[derive(Clone, Copy, Debug)]
 pub(crate) struct PaintValues<'p> {
     /// The table that has the deltas.
     pub colr: &'p ColrTable<'p>,

@@ -22,7 +22,7 @@ pub(crate) const DEEPEST_PAINT: u8 = 64;
 pub(crate) const MOST_PAINTS: u32 = 2048;
 
 /// What paints are painted on.
-#[derive(Clone, Copy)]
+#[derive(Clone, Copy, Debug)]
 pub(crate) struct Canvas {
     /// The transform that holds.
     pub transform: Transform,
@@ -50,6 +50,7 @@ impl Canvas {
 }
 
 /// What a walk through paints has met.
+#[derive(Debug)]
 pub(crate) struct Visits {
     /// How many paints may still be followed.
     left: u32,
@@ -73,7 +74,7 @@ impl Visits {
 }
 
 /// What finds how far paints reach.
-#[derive(Clone, Copy)]
+#[derive(Clone, Copy, Debug)]
 pub(crate) struct Painter<'p> {
     /// The table of the paints.
     pub colr: &'p ColrTable<'p>,

@@ -73,7 +73,7 @@ impl<'a> SbixTable<'a> {
 }
 
 /// The strikes of a table `sbix`.
-#[derive(Clone, Copy)]
+#[derive(Clone, Copy, Debug)]
 struct GraphicSizes<'a> {
     sbix: &'a [u8],
 }

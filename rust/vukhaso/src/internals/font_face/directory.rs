@@ -11,7 +11,7 @@ use crate::font_tables::rows::rows_within;
 const SLOTS: usize = 103;
 
 /// The tables of a font, with the first record in each slot of tags.
-#[derive(Clone, Copy)]
+#[derive(Clone, Copy, Debug)]
 pub(crate) struct Directory<'a> {
     /// The tables.
     pub(crate) tables: Tables<'a>,

@@ -7,7 +7,7 @@ use crate::common::{GlyphId, Tag};
 use crate::font_cmap::CharacterMap;
 use crate::font_face::color::ColorTables;
 use crate::font_face::directory::Directory;
-use crate::font_face::layout::{Layout, is_read};
+use crate::font_face::layout::Layout;
 use crate::font_face::variations::FaceVariations;
 use crate::font_outlines::{GlyfTables, Outlines};
 use crate::font_tables::bytes::u16_at;
@@ -290,7 +290,7 @@ fn face_of<'a>(
         gdef,
         outlines: outlines_of(&tables, head, glyph_count),
         color: ColorTables::new(&tables, glyph_count, 0, 0),
-        has_gpos: is_read(tables.table(Tag::from_bytes(b"GPOS"))),
+        has_gpos: layout.has_gpos(&tables),
         layout,
         lookups: Shared::new(lookups),
 

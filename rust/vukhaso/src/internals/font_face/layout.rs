@@ -36,6 +36,15 @@ impl<'a> Layout<'a> {
             trak: tables.table(Tag::from_bytes(b"trak")),
         }
     }
+
+    /// Whether the font has a table `GPOS` that is read.
+    ///
+    /// # Requires
+    ///
+    /// - `IsLayoutOf self.now _tables.now.tables`
+    pub(crate) fn has_gpos(&self, _tables: &Directory<'a>) -> bool {
+        !self.gpos.is_empty()
+    }
 }
 
 /// A table of lookups, if it is read.
@@ -46,7 +55,7 @@ fn read_table(table: &[u8]) -> &[u8] {
 /// Whether a table of lookups is read: one of version 1 holds its header, with the offset of feature
 /// variations from version 1.1 on, and is not refused for its subtables. One of an unknown version is
 /// read as one without lookups.
-pub(crate) fn is_read(table: &[u8]) -> bool {
+fn is_read(table: &[u8]) -> bool {
     match u16_at(table, 0) {
         Some(1) => {
             let header = if matches!(u16_at(table, 2), Some(0)) {

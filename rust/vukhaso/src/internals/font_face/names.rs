@@ -12,6 +12,7 @@ use crate::memory::BTreeMap;
 use crate::memory::{AllocError, Vec};
 
 /// The names and the extents of a font's glyphs, as the text of shaped glyphs asks for them.
+#[derive(Debug)]
 pub struct FaceNames<'a> {
     outlines: Outlines<'a>,
     bounds: BoundsSource<'a>,

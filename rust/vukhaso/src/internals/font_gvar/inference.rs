@@ -75,7 +75,7 @@ fn fill(
 }
 
 /// Two points, and their deltas.
-#[derive(Clone, Copy)]
+#[derive(Clone, Copy, Debug)]
 struct Ends {
     before: Point,
     behind: Point,

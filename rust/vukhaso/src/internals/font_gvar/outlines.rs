@@ -15,7 +15,7 @@ use crate::memory::{AllocError, Vec};
 const MOST_POINTS: usize = 200_000;
 
 /// What the points of glyphs are read from.
-#[derive(Clone, Copy)]
+#[derive(Clone, Copy, Debug)]
 pub(crate) struct PointSource<'a> {
     /// The tables.
     pub sources: &'a GlyphSources<'a>,

@@ -12,6 +12,7 @@ use crate::font_gvar::tuples::{Tuple, Tuples};
 use crate::memory::{AllocError, Vec};
 
 /// Points of an outline, and by how much they are still to be moved.
+#[derive(Debug)]
 struct VariedPoints<'p> {
     /// The points, as they are moved so far.
     points: &'p mut [OutlinePoint],

@@ -122,7 +122,7 @@ impl<'a> Cff2Table<'a> {
 }
 
 /// A Private DICT.
-#[derive(Clone, Copy)]
+#[derive(Clone, Copy, Debug)]
 struct Private<'a> {
     /// Its bytes.
     bytes: &'a [u8],

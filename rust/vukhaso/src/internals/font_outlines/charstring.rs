@@ -122,6 +122,7 @@ const ENDCHAR: u8 = 14;
 const CALLGSUBR: u8 = 29;
 
 /// What a charstring leaves from one operator to the next.
+#[derive(Debug)]
 pub(crate) struct State {
     /// The numbers that no operator took yet, in 65,536ths of a font unit.
     numbers: [i32; MOST_NUMBERS],

@@ -25,6 +25,7 @@ pub(crate) struct Setting2<'a> {
 }
 
 /// What a charstring of `CFF2` leaves from one operator to the next.
+#[derive(Debug)]
 struct State2 {
     /// What one of `CFF ` does, too.
     state: State,

@@ -32,14 +32,14 @@ pub(crate) struct Dict {
 }
 
 /// A number or an operator of DICT data.
-#[derive(Clone, Copy)]
+#[derive(Clone, Copy, Debug)]
 enum Token {
     Number(i32),
     Operator(u16),
 }
 
 /// The numbers before an operator.
-#[derive(Clone, Copy, Default)]
+#[derive(Clone, Copy, Debug, Default)]
 struct Numbers {
     count: usize,
     last: i32,

@@ -28,6 +28,7 @@ const MOST_OWN_NAMES: u32 = 65278;
 /// ghost has_starts: { (n : ℕ) → n < 65278 → slice_get starts.items n ≡ string_start own.now n }
 /// ghost has_names: { map (λ name. name.now) macintosh.items ≡ slice_split (λ b. b == 32) macintosh_text }
 /// ```
+#[derive(Debug)]
 pub struct PostNames<'a> {
     /// The bytes of the table.
     pub table: &'a [u8],

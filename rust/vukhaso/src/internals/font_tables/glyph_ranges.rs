@@ -9,7 +9,7 @@ use crate::font_tables::rows::{Rows, SHORT, first_row, rows_within};
 use crate::numbers::Chunks;
 
 /// Ranges that lie whole in the table.
-#[derive(Clone, Copy)]
+#[derive(Clone, Copy, Debug)]
 struct Ranges<'a>(Chunks<'a, 6>);
 
 ///
@@ -71,7 +71,7 @@ fn first_range(table: &[u8], count: u16, are_rising: bool, glyph: GlyphId) -> Op
 }
 
 /// A range: its first glyph, and its value.
-#[derive(Clone, Copy)]
+#[derive(Clone, Copy, Debug)]
 pub(crate) struct Range {
     pub(crate) first: u16,
     pub(crate) value: u16,
@@ -122,7 +122,7 @@ pub(crate) fn range_of(
 }
 
 /// The glyphs from one on that one range has, or none: all below `end` have the value, but for those before `first`, which have 0.
-#[derive(Clone, Copy)]
+#[derive(Clone, Copy, Debug)]
 pub(crate) struct Run {
     pub(crate) first: u32,
     pub(crate) end: u32,

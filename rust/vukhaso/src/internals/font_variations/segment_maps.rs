@@ -163,7 +163,7 @@ fn behind_map(maps: &[u8]) -> &[u8] {
 }
 
 /// A pair of a segment map: the coordinate that is moved, and where it is moved to.
-#[derive(Clone, Copy)]
+#[derive(Clone, Copy, Debug)]
 struct Pair {
     from: i32,
     to: i32,

@@ -10,7 +10,7 @@ use crate::font_functions::FontFunctions;
 use crate::memory::AllocError;
 
 /// A glyph at its position.
-#[derive(Clone, Copy)]
+#[derive(Clone, Copy, Debug)]
 struct Placed {
     glyph: GlyphId,
     position: GlyphPosition,

@@ -17,6 +17,7 @@ use crate::memory::{String, Vec};
 ///   bytes = f.bytes.items;
 /// } }
 /// ```
+#[derive(Debug)]
 pub struct FontFile {
     path: Option<String>,
     bytes: Vec<u8>,

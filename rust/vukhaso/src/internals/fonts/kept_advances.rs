@@ -27,6 +27,7 @@ pub struct KeptAdvance {
 /// ```text
 /// ghost are_own: { AreOwn own.face.now kept }
 /// ```
+#[derive(Debug)]
 pub struct KeptAdvances<'a> {
     own: OwnFunctions<'a>,
     /// The advances: each glyph has one place, which it shares with every 1024th.

@@ -271,6 +271,7 @@ impl LineNames for FaceNames<'_> {
 }
 
 /// The names of a font's glyphs, and the extents of glyphs that are drawn bolder and slanted.
+#[derive(Debug)]
 pub struct SyntheticNames<'a> {
     names: FaceNames<'a>,
     extents: BTreeMap<u16, Option<GlyphExtents>>,

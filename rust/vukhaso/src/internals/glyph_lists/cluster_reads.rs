@@ -13,6 +13,7 @@ use crate::glyph::hb_glyph_info_t;
 /// ghost Value = { Reads }
 /// ghost view = { λ r. record { out = r.out.now; input = r.input.now; reads = r.reads } }
 /// ```
+#[derive(Debug)]
 pub struct ClusterReads<'a> {
     out: &'a [hb_glyph_info_t],
     input: &'a [hb_glyph_info_t],

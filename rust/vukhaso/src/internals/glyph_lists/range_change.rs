@@ -7,7 +7,7 @@ use crate::glyph_lists::cluster_order::ClusterOrder;
 use crate::glyph_lists::glyph_flags::{mark_range, scan_parts};
 
 /// A change of the glyph flags of a range.
-#[derive(Clone, Copy)]
+#[derive(Clone, Copy, Debug)]
 pub enum RangeChange {
     /// Each glyph gets the bits.
     Mark { bits: u32 },

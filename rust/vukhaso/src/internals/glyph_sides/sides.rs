@@ -29,6 +29,7 @@ mod rewind;
 /// } }
 /// ghost invariant = { IsStored }
 /// ```
+#[derive(Debug)]
 pub struct Sides {
     /// The input from place `front` on; what lies before the cursor was read. While the output is in place, its first
     /// glyphs are those that were put out.

@@ -9,6 +9,7 @@ use core::str::from_utf8;
 const LIMIT: usize = 22;
 
 /// A text of numbers and of ASCII signs before them. It goes into a longer text by one copy.
+#[derive(Debug)]
 pub(crate) struct NumberText {
     bytes: [u8; LIMIT],
     start: usize,

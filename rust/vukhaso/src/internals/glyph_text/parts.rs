@@ -6,7 +6,7 @@ use crate::common::GlyphId;
 use crate::glyph::{GlyphExtents, GlyphNames, GlyphPosition, SerializeFlags, hb_glyph_info_t};
 
 /// Where the next glyph is drawn, from the start of the line, under `NO_ADVANCES`; and else the start.
-#[derive(Clone, Copy)]
+#[derive(Clone, Copy, Debug)]
 pub struct Pen {
     /// To the right.
     pub x: i128,

@@ -105,6 +105,7 @@ fn positions_look_alike(positions: &[GlyphPosition], others: &[GlyphPosition]) -
 }
 
 /// The steps of shaping, which it is told as the text is shaped.
+#[derive(Debug)]
 pub struct Picture {
     rows: Vec<Row>,
 }

@@ -8,6 +8,7 @@ use crate::options::options::LineOptions;
 use crate::ot_plan::KeptPlans;
 
 /// What is kept of a line for the next one of the same font.
+#[derive(Debug)]
 pub struct KeptLine {
     /// The plans of its text and of those before.
     pub plans: KeptPlans,

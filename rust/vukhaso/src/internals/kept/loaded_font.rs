@@ -10,6 +10,7 @@ use crate::memory::{AllocError, Vec};
 use crate::options::options::{FontChoice, Options};
 
 /// A font at a size, with the names of its glyphs once they were asked for.
+#[derive(Debug)]
 pub struct LoadedFont<'f> {
     file: &'f FontFile,
     choice: FontChoice,

@@ -61,7 +61,7 @@ impl Watch for Trace {
 }
 
 /// How the steps of shaping a line are printed.
-#[derive(Clone, Copy)]
+#[derive(Clone, Copy, Debug)]
 pub struct StepPrinter<'a> {
     /// The font, as its glyphs are to be drawn.
     pub font: SyntheticFont<'a>,

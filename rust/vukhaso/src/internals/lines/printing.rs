@@ -10,7 +10,7 @@ use crate::memory::AllocError;
 use crate::options::output::{Output, OutputFormat};
 
 /// A font, and what is printed of its glyphs.
-#[derive(Clone, Copy)]
+#[derive(Clone, Copy, Debug)]
 pub struct GlyphPrinter<'a> {
     /// The font, as its glyphs are to be drawn.
     pub font: SyntheticFont<'a>,

@@ -5,7 +5,7 @@
 use crate::clap::{Arg, ArgAction, ArgMatches, Command, Error};
 use crate::host::AsStr;
 use crate::memory::{AllocError, String};
-use crate::options::option_table::{GROUPS, OPTIONS, letter_of};
+use crate::options::option_table::{HELP, OPTIONS, Row};
 
 const ABOUT: &str =
     "Shapes the lines of a text with a font, and prints their glyphs as HarfBuzz's hb-shape does";
@@ -23,21 +23,31 @@ pub(crate) fn matches_of<'a, S: AsStr>(words: &'a [S]) -> Result<ArgMatches<'a>,
 
 /// The command line of the program. Of an option that is given twice the later one counts.
 fn command<'a>() -> Result<Command<'a>, AllocError> {
-    let words = Arg::new("words")
+    let command = Command::new("vukhaso_shape").about(ABOUT);
+    let command = with_options(command, &OPTIONS, None)?;
+    let command = with_options(command, &HELP, None)?;
+    command.arg(words())
+}
+
+/// The words that are no options.
+fn words<'a>() -> Arg<'a> {
+    Arg::new("words")
         .value_name("FONT [TEXT]")
         .num_args(0..)
         .action(ArgAction::Append)
-        .help("The font, and the text; without a text standard input is read");
-    let command = with_help_options(with_options(None)?)?;
-    command.about(ABOUT).arg(words)
+        .help("The font, and the text; without a text standard input is read")
 }
 
-/// A command with the options of a group, or with all.
-fn with_options<'a>(group: Option<&str>) -> Result<Command<'a>, AllocError> {
-    let mut command = Command::new("vukhaso_shape");
-    for (of, name, value_name, help) in &OPTIONS {
-        if group.is_none_or(|group| group == *of) {
-            command = with_option(command, option(name, value_name, help))?;
+/// A command with these options, or with those of a group among them.
+fn with_options<'a>(
+    command: Command<'a>,
+    options: &'static [Row],
+    group: Option<&str>,
+) -> Result<Command<'a>, AllocError> {
+    let mut command = command;
+    for row in options {
+        if group.is_none_or(|group| group == row.0) {
+            command = with_option(command, option(row))?;
         }
     }
     Ok(command)
@@ -54,18 +64,15 @@ fn with_option<'a>(
     }
 }
 
-/// An option of this name, which may be given more than once, with a value where that has a name. `v`
-/// is a letter alone.
-fn option<'a>(
-    name: &'static str,
-    value_name: &'static str,
-    help: &'static str,
-) -> Result<Arg<'a>, AllocError> {
+/// An option, which may be given more than once, with a value where that has a name. `v` is a letter
+/// alone.
+fn option<'a>(row: &'static Row) -> Result<Arg<'a>, AllocError> {
+    let (_, name, letter, value_name, help) = *row;
     let mut arg = Arg::new(name).help(help).overrides_with(name)?;
     if name != "v" {
         arg = arg.long(name);
     }
-    if let Some(letter) = letter_of(name) {
+    if let Some(letter) = letter {
         arg = arg.short(letter);
     }
     if value_name.is_empty() {
@@ -74,26 +81,15 @@ fn option<'a>(
     Ok(arg.allow_hyphen_values(true).value_name(value_name))
 }
 
-/// A command with the options that ask for help on a group, or on all.
-fn with_help_options<'a>(command: Command<'a>) -> Result<Command<'a>, AllocError> {
-    let mut command = command;
-    for (_, name, about) in &GROUPS {
-        command = with_option(command, option(name, "", about))?;
-    }
-    with_option(command, option("help-all", "", "All options"))
-}
-
 /// What words ask for in place of answers, if they do: help on some options, the version or the
 /// shapers.
 pub(crate) fn asked_for(matches: &ArgMatches<'_>) -> Result<Option<String>, AllocError> {
-    for (group, name, about) in &GROUPS {
+    for (group, name, _, _, about) in &HELP {
         if matches.get_flag(name) {
             return Ok(Some(help_on(group, about)?));
         }
     }
-    if matches.get_flag("help-all") {
-        Ok(Some(help_on_all()?))
-    } else if matches.get_flag("version") {
+    if matches.get_flag("version") {
         Ok(Some(String::from_str(VERSION)?))
     } else if matches.get_flag("list-shapers") {
         Ok(Some(String::from_str(SHAPERS)?))
@@ -102,12 +98,11 @@ pub(crate) fn asked_for(matches: &ArgMatches<'_>) -> Result<Option<String>, Allo
     }
 }
 
-/// The help on the options of a group.
+/// The help on the options of a group, or on all where it has no name.
 fn help_on(group: &str, about: &'static str) -> Result<String, AllocError> {
-    with_options(Some(group))?.about(about).render_help()
-}
-
-/// The help on all options.
-fn help_on_all() -> Result<String, AllocError> {
-    command()?.render_help()
+    if group.is_empty() {
+        return command()?.render_help();
+    }
+    let command = Command::new("vukhaso_shape").about(about);
+    with_options(command, &OPTIONS, Some(group))?.render_help()
 }

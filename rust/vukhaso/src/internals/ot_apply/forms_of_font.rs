@@ -6,12 +6,14 @@ use crate::buffer::hb_buffer_t;
 use crate::font_face::Face;
 use crate::font_functions::FontFunctions;
 use crate::memory::AllocError;
-use crate::ot_layout::{Budget, would_substitute};
+use crate::ot_layout::Budget;
 use crate::ot_map::{LayoutPlan, Pause};
 use crate::ot_plan::{FormPlaces, TextPlan, budget_of};
+use crate::ot_substitution::would_substitute;
 use crate::script_syllables::{FontForms, FormFeature};
 
 /// A font with the features of a text.
+#[derive(Debug)]
 struct Forms<'a, F> {
     face: &'a Face<'a>,
     font: &'a F,

@@ -16,7 +16,7 @@ use crate::script_universal::{FormLookup, FormMasks, flag_forms};
 const LIGATURES: u16 = 4;
 
 /// A lookup, and the bits of its features.
-#[derive(Clone, Copy)]
+#[derive(Clone, Copy, Debug)]
 struct MaskedLookup<'a> {
     lookup: &'a Lookup<'a>,
     mask: u32,
@@ -57,6 +57,7 @@ fn is_in_one(bits: u32, one: u32, other: u32) -> bool {
 ///
 /// - `closed: buffer.old.have_output ≡ false`
 /// - `met: HasGlyphs glyphs.old buffer.old.input`
+#[inline(always)]
 pub(crate) fn keep_joined(
     buffer: &mut hb_buffer_t,
     face: &Face,

@@ -8,11 +8,13 @@ use crate::ot_gsub::Progress;
 use crate::ot_map::Pause;
 
 /// The digest of the glyphs of a buffer.
+#[inline(always)]
 pub(crate) fn digest_of(buffer: &hb_buffer_t) -> Digest {
     Digest::of_glyphs(buffer.info())
 }
 
 /// Sees which glyphs there are after a lookup, if it changed some.
+#[inline(always)]
 pub(crate) fn see_changes(buffer: &hb_buffer_t, glyphs: &mut Digest, progress: &mut Progress) {
     if !progress.has_changed {
         return;
@@ -22,6 +24,7 @@ pub(crate) fn see_changes(buffer: &hb_buffer_t, glyphs: &mut Digest, progress: &
 }
 
 /// Sees which glyphs there are after a pause, unless nothing was done there.
+#[inline(always)]
 pub(crate) fn see_after(
     buffer: &hb_buffer_t,
     pause: Pause,

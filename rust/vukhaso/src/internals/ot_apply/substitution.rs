@@ -169,6 +169,7 @@ fn apply_stages<F: FontFunctions, W: Watch>(
 }
 
 /// The lookups of a stage, from its first place in the list of all to its end.
+#[inline(always)]
 fn lookups_of(layout: &LayoutPlan, start: usize, end: usize) -> &[PlannedLookup] {
     if start <= end && end <= layout.gsub_lookups.len() {
         &layout.gsub_lookups[start..end]
@@ -240,6 +241,7 @@ fn apply_planned(
 }
 
 /// The lookups of a font, and how one of the plan is applied.
+#[inline(always)]
 fn substitutions_of<'a>(face: &'a Face<'a>, planned: &PlannedLookup) -> Substitutions<'a> {
     Substitutions {
         list: &face.lookups.substitutions,

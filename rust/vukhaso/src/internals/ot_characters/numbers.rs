@@ -45,7 +45,7 @@ pub fn keep_numbers(buffer: &mut hb_buffer_t) {
 }
 
 /// Which characters of such a line hang on which.
-#[derive(Clone, Copy)]
+#[derive(Clone, Copy, Debug)]
 struct LineOfNumbers {
     /// Whether the line is turned: it has letters, or no numbers.
     is_turned: bool,

@@ -99,6 +99,7 @@ fn set_many_properties(infos: &mut [hb_glyph_info_t], scratch_flags: &mut u32) {
 }
 
 /// Sets the properties of a character.
+#[inline(always)]
 fn set_own_properties(info: &mut hb_glyph_info_t, scratch_flags: &mut u32) {
     set_unicode_props(info, scratch_flags);
 }
@@ -120,6 +121,7 @@ fn go_on(info: &mut hb_glyph_info_t) {
 /// # Requires
 ///
 /// - `i < length infos.now`
+#[inline(always)]
 fn continues_grapheme(infos: &[hb_glyph_info_t], i: usize) -> bool {
     debug_assert!(i < infos.len());
     let info = &infos[i];

@@ -3,8 +3,8 @@
 //! Contexts: which rule fits at a glyph (HarfBuzz, `ContextPos`, `ChainContextPos`).
 
 use crate::glyph::hb_glyph_info_t;
+use crate::ot_contexts::context::{Fit, fitting_rule};
 use crate::ot_gpos::turn::Turn;
-use crate::ot_layout::context::{Fit, fitting_rule};
 use crate::ot_layout::search::{ApplyContext, Reach, Search};
 use crate::ot_layout::skipping_iterator::SkippingIterator;
 use crate::ot_lookups::lookup_list::LookupList;

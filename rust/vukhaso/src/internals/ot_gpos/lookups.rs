@@ -5,15 +5,15 @@
 
 use crate::buffer::hb_buffer_t;
 use crate::glyph::hb_glyph_info_t;
+use crate::ot_attachments::flags::{mark_break, mark_concat};
+use crate::ot_contexts::context::Fit;
 use crate::ot_gpos::contexts::fit_at;
 use crate::ot_gpos::cursive::place_cursive;
-use crate::ot_gpos::flags::{mark_break, mark_concat};
 use crate::ot_gpos::marks::{LastBase, place_on_base, place_on_ligature, place_on_mark};
 use crate::ot_gpos::pairs::{place_pair, place_single};
 use crate::ot_gpos::turn::{Setting, Turn};
 use crate::ot_gpos_tables::contour_points::ContourPoints;
 use crate::ot_layout::budget::{PASSED_A_STEP, SUBTABLE_STEPS};
-use crate::ot_layout::context::Fit;
 use crate::ot_layout::search::{MatchPositions, Search};
 use crate::ot_layout::skipping_iterator::{LookupOptions, SkippingIterator};
 use crate::ot_lookups::lookup_list::Lookup;
@@ -25,6 +25,7 @@ use core::mem;
 const MAX_NESTING_LEVEL: u32 = 64;
 
 /// A lookup at a glyph.
+#[derive(Debug)]
 struct Task<'a, P> {
     /// The font's lookups and its size.
     setting: &'a Setting<'a, P>,

@@ -4,7 +4,7 @@
 
 use crate::buffer::hb_buffer_t;
 use crate::glyph::{GlyphPosition, hb_glyph_info_t};
-use crate::ot_gpos::flags::{mark_break, mark_concat};
+use crate::ot_attachments::flags::{mark_break, mark_concat};
 use crate::ot_gpos::turn::Turn;
 use crate::ot_gpos_tables::instance::Instance;
 use crate::ot_gpos_tables::pairs::{

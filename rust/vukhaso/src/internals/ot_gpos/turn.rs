@@ -8,6 +8,7 @@ use crate::ot_lookups::lookup_list::{Lookup, LookupList};
 use crate::ot_lookups::subtable::Subtable;
 
 /// A font's lookups of `GPOS`, the size and the variations at which it is used, and who knows the points of its outlines.
+#[derive(Debug)]
 pub struct Setting<'a, P> {
     /// The lookups.
     pub list: &'a LookupList<'a>,

@@ -13,7 +13,7 @@ use crate::ot_layout::MatchPositions;
 use crate::ot_layout::ligature_parts::{
     component_count, ligature_component, ligature_id, ligature_properties, mark_properties,
 };
-use crate::ot_layout::substitution::Ligation;
+use crate::ot_substitution::substitution::Ligation;
 
 /// The bits of the Unicode properties that hold the general category.
 const GENERAL_CATEGORY: u16 = 0x001F;

@@ -9,8 +9,8 @@ use crate::memory::AllocError;
 use crate::ot_gsub::properties::{BASE, LIGATURE, Way, substituted_props};
 use crate::ot_gsub::substitution::Progress;
 use crate::ot_gsub::writing::{drop_behind, gives_cluster, glyph_ahead, hand_on, write_properties};
-use crate::ot_layout::glyph_table::Glyphs;
 use crate::ot_layout::ligature_parts::{ligature_id, mark_properties};
+use crate::ot_substitution::glyph_table::Glyphs;
 
 /// Sets the properties of the current glyph to those of the glyph that comes into its place.
 ///

@@ -8,9 +8,9 @@ use crate::font_tables::gdef::Gdef;
 use crate::glyph::hb_glyph_info_t;
 use crate::ot_gsub::properties::{Way, substituted_props};
 use crate::ot_gsub::substitution::{Progress, Substitutions};
-use crate::ot_layout::substitution::{Edit, edit_at};
 use crate::ot_layout::{ApplyContext, LookupOptions, Reach, SkippingIterator};
 use crate::ot_lookups::Lookup;
+use crate::ot_substitution::substitution::{Edit, edit_at};
 
 /// Applies a lookup of reverse substitutions at each glyph, from the last one to the first.
 ///

@@ -149,6 +149,7 @@ impl<'a> SkippingIterator<'a> {
 
     /// Whether a glyph with these properties is invisible, and of a kind that this iterator may pass over.
     /// One that was substituted is not invisible.
+    #[inline(always)]
     fn may_ignore(&self, unicode: u16, glyph: u16) -> bool {
         unicode & IGNORABLE != 0
             && glyph & SUBSTITUTED == 0
@@ -246,6 +247,7 @@ impl<'a> SkippingIterator<'a> {
     /// # Requires
     ///
     /// - `place < length glyphs.now`
+    #[inline(always)]
     fn found_at(&self, matcher: &Matcher, glyphs: &[hb_glyph_info_t], place: usize) -> Found {
         debug_assert!(place < glyphs.len());
         if self.matches(matcher, &glyphs[place]) {
@@ -260,6 +262,7 @@ impl<'a> SkippingIterator<'a> {
     /// # Requires
     ///
     /// - `start ≤ length glyphs.now`
+    #[inline(always)]
     fn first_kept(&self, matcher: &Matcher, glyphs: &[hb_glyph_info_t], start: usize) -> usize {
         debug_assert!(start <= glyphs.len());
         for place in start..glyphs.len() {
@@ -276,6 +279,7 @@ impl<'a> SkippingIterator<'a> {
     /// # Requires
     ///
     /// - `place ≤ length glyphs.now`
+    #[inline(always)]
     fn kept_before(&self, matcher: &Matcher, glyphs: &[hb_glyph_info_t], place: usize) -> usize {
         debug_assert!(place <= glyphs.len());
         let mut end = place;

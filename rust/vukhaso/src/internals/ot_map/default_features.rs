@@ -25,28 +25,43 @@ pub(crate) fn add_first_features(
 ) -> Result<(), AllocError> {
     builder.enable_feature(Tag::from_bytes(b"rvrn"), FeatureFlags::NONE)?;
     builder.add_gsub_pause(Pause::Nothing)?;
+    add_direction_features(builder, direction)?;
+    add_chosen_features(builder)?;
+    Ok(())
+}
+
+/// Asks for forms of a direction.
+fn add_direction_features(
+    builder: &mut PlanBuilder,
+    direction: Direction,
+) -> Result<(), AllocError> {
     match direction {
         Direction::LeftToRight => {
-            builder.enable_feature(Tag::from_bytes(b"ltra"), FeatureFlags::NONE)?;
-            builder.enable_feature(Tag::from_bytes(b"ltrm"), FeatureFlags::NONE)?;
+            enable_all(builder, &[b"ltra", b"ltrm"], FeatureFlags::NONE)?;
+            Ok(())
         }
         Direction::RightToLeft => {
             builder.enable_feature(Tag::from_bytes(b"rtla"), FeatureFlags::NONE)?;
             builder.add_feature(Tag::from_bytes(b"rtlm"), FeatureFlags::NONE, 1)?;
+            Ok(())
         }
-        _ => {}
+        _ => Ok(()),
     }
-    for tag in [b"frac", b"numr", b"dnom"] {
-        builder.add_feature(Tag::from_bytes(tag), FeatureFlags::NONE, 1)?;
-    }
+}
+
+/// Asks for fractions, for alternates at random, and for the features of HarfBuzz's name.
+fn add_chosen_features(builder: &mut PlanBuilder) -> Result<(), AllocError> {
+    builder.add_feature(Tag::from_bytes(b"frac"), FeatureFlags::NONE, 1)?;
+    builder.add_feature(Tag::from_bytes(b"numr"), FeatureFlags::NONE, 1)?;
+    builder.add_feature(Tag::from_bytes(b"dnom"), FeatureFlags::NONE, 1)?;
     let at_random = FeatureFlags {
         is_global: true,
         random: true,
         ..FeatureFlags::NONE
     };
     builder.add_feature(Tag::from_bytes(b"rand"), at_random, MAX_VALUE)?;
-    builder.enable_feature(Tag::from_bytes(b"Harf"), FeatureFlags::NONE)?;
-    builder.enable_feature(Tag::from_bytes(b"HARF"), FeatureFlags::NONE)
+    enable_all(builder, &[b"Harf", b"HARF"], FeatureFlags::NONE)?;
+    Ok(())
 }
 
 /// Asks for the features that come after those of a script's shaper.
@@ -54,34 +69,52 @@ pub(crate) fn add_last_features(
     builder: &mut PlanBuilder,
     direction: Direction,
 ) -> Result<(), AllocError> {
-    for tag in [
-        b"Buzz", b"BUZZ", b"abvm", b"blwm", b"ccmp", b"locl", b"rlig",
-    ] {
-        builder.enable_feature(Tag::from_bytes(tag), FeatureFlags::NONE)?;
-    }
-    builder.enable_feature(Tag::from_bytes(b"mark"), MANUAL_JOINERS)?;
-    builder.enable_feature(Tag::from_bytes(b"mkmk"), MANUAL_JOINERS)?;
+    add_common(builder)?;
     if direction.is_horizontal() {
-        add_horizontal_features(builder)
+        add_horizontal_features(builder)?;
+        Ok(())
     } else {
         let searched = FeatureFlags {
             global_search: true,
             ..FeatureFlags::NONE
         };
-        builder.enable_feature(Tag::from_bytes(b"vert"), searched)
+        enable_all(builder, &[b"vert"], searched)?;
+        Ok(())
     }
+}
+
+/// Asks for the features of all lines.
+fn add_common(builder: &mut PlanBuilder) -> Result<(), AllocError> {
+    let names = [
+        b"Buzz", b"BUZZ", b"abvm", b"blwm", b"ccmp", b"locl", b"rlig",
+    ];
+    enable_all(builder, &names, FeatureFlags::NONE)?;
+    enable_all(builder, &[b"mark", b"mkmk"], MANUAL_JOINERS)?;
+    Ok(())
 }
 
 /// Asks for the features of horizontal lines.
 fn add_horizontal_features(builder: &mut PlanBuilder) -> Result<(), AllocError> {
-    for tag in [b"calt", b"clig", b"curs", b"dist", b"liga", b"rclt"] {
-        builder.enable_feature(Tag::from_bytes(tag), FeatureFlags::NONE)?;
-    }
+    let names = [b"calt", b"clig", b"curs", b"dist", b"liga", b"rclt"];
+    enable_all(builder, &names, FeatureFlags::NONE)?;
     let with_fallback = FeatureFlags {
         has_fallback: true,
         ..FeatureFlags::NONE
     };
-    builder.enable_feature(Tag::from_bytes(b"kern"), with_fallback)
+    enable_all(builder, &[b"kern"], with_fallback)?;
+    Ok(())
+}
+
+/// Asks for features of every glyph.
+fn enable_all(
+    builder: &mut PlanBuilder,
+    names: &[&[u8; 4]],
+    flags: FeatureFlags,
+) -> Result<(), AllocError> {
+    for name in names {
+        builder.enable_feature(Tag::from_bytes(name), flags)?;
+    }
+    Ok(())
 }
 
 /// Asks for the features of a user.
@@ -91,10 +124,15 @@ pub(crate) fn add_user_features(
 ) -> Result<(), AllocError> {
     for feature in features {
         let flags = FeatureFlags {
-            is_global: feature.is_global(),
+            is_global: is_whole(feature),
             ..FeatureFlags::NONE
         };
         builder.add_feature(feature.tag, flags, feature.value)?;
     }
     Ok(())
+}
+
+/// Whether a feature is one of the whole text.
+fn is_whole(feature: &Feature) -> bool {
+    feature.is_global()
 }

@@ -47,26 +47,6 @@ pub struct TextProperties<'a> {
     pub languages: &'a [Tag],
 }
 
-/// What the shaper of a text's script says of positions.
-#[derive(Clone, Copy, PartialEq, Eq, Debug)]
-pub struct ShaperRules {
-    /// The script that `GPOS` has to have for its lookups to be applied; `None` where any will do.
-    pub gpos_script: Option<Tag>,
-    /// Whether marks lose their width.
-    pub zero_marks: bool,
-    /// Whether marks are placed by the bounds of glyphs where the font does not place them.
-    pub fallback_position: bool,
-}
-
-impl ShaperRules {
-    /// Those of the default shaper.
-    pub const DEFAULT: ShaperRules = ShaperRules {
-        gpos_script: None,
-        zero_marks: true,
-        fallback_position: true,
-    };
-}
-
 /// How a text is shaped by a font.
 #[derive(Debug)]
 pub struct ShapePlan {
@@ -105,28 +85,6 @@ pub struct ShapePlan {
 }
 
 impl ShapePlan {
-    /// The plan of the default shaper, for a text and a user's features.
-    ///
-    /// # Errors
-    ///
-    /// `Err(AllocError)` where memory ran out.
-    ///
-    /// # Proved
-    ///
-    /// ```text
-    /// ensures { IfOk result (λ plan. IsPlan plan.layout) }
-    /// ```
-    #[inline]
-    pub fn new(
-        font: &FontLayout,
-        text: &TextProperties,
-        features: &[Feature],
-    ) -> Result<ShapePlan, AllocError> {
-        let mut builder = ShapePlan::begin(font, text)?;
-        ShapePlan::add_common_features(&mut builder, text.direction, features)?;
-        ShapePlan::complete(builder, font, text.direction, ShaperRules::DEFAULT)
-    }
-
     /// What is chosen of a font for a text, and the features that come before those of a script's shaper.
     ///
     /// # Errors
@@ -140,16 +98,17 @@ impl ShapePlan {
     ///     ≡ (script_of (list_of font.now.gsub.now 4) (map (λ tag. tag.0) text.now.scripts.now)).0) }
     /// ensures gpos { IfOk result (λ builder. builder.gpos.script.tag.0
     ///     ≡ (script_of (list_of font.now.gpos.now 4) (map (λ tag. tag.0) text.now.scripts.now)).0) }
+    /// ensures tables { IfOk result (λ builder. AreChosenOf font.now text.now builder) }
+    /// ensures asked { IfOk result (λ builder.
+    ///     collected builder ≡ with_asks (first_features text.now.direction) nothing_yet) }
     /// ```
     #[inline]
     pub fn begin<'a>(
         font: &FontLayout<'a>,
         text: &TextProperties,
     ) -> Result<PlanBuilder<'a>, AllocError> {
-        let gsub = ChosenTable::new(font.gsub, text.scripts, text.languages)
-            .with_substitutions(font.gsub_substitutions);
-        let gpos = ChosenTable::new(font.gpos, text.scripts, text.languages)
-            .with_substitutions(font.gpos_substitutions);
+        let gsub = chosen(font.gsub, font.gsub_substitutions, text);
+        let gpos = chosen(font.gpos, font.gpos_substitutions, text);
         let mut builder = PlanBuilder::new(gsub, gpos);
         add_first_features(&mut builder, text.direction)?;
         Ok(builder)
@@ -163,7 +122,10 @@ impl ShapePlan {
     ///
     /// # Proved
     ///
-    /// That it returns.
+    /// ```text
+    /// ensures { IfOk result
+    ///     (λ _. Asks (last_features direction ++ user_features features.now) builder.old builder.new) }
+    /// ```
     #[inline]
     pub fn add_common_features(
         builder: &mut PlanBuilder,
@@ -171,74 +133,12 @@ impl ShapePlan {
         features: &[Feature],
     ) -> Result<(), AllocError> {
         add_last_features(builder, direction)?;
-        add_user_features(builder, features)
-    }
-
-    /// The plan of all features that were asked for.
-    ///
-    /// # Errors
-    ///
-    /// `Err(AllocError)` where memory ran out.
-    ///
-    /// # Proved
-    ///
-    /// ```text
-    /// ensures { IfOk result (λ plan. IsPlan plan.layout) }
-    /// ```
-    #[inline]
-    pub fn complete(
-        builder: PlanBuilder,
-        font: &FontLayout,
-        direction: Direction,
-        rules: ShaperRules,
-    ) -> Result<ShapePlan, AllocError> {
-        let layout = builder.compile()?;
-        Ok(decided(layout, font, direction, rules))
+        add_user_features(builder, features)?;
+        Ok(())
     }
 }
 
-/// What follows from the features of a plan, the tables of a font and the shaper of a script.
-fn decided(
-    layout: LayoutPlan,
-    font: &FontLayout,
-    direction: Direction,
-    rules: ShaperRules,
-) -> ShapePlan {
-    let kern_tag = if direction.is_horizontal() {
-        Tag::from_bytes(b"kern")
-    } else {
-        Tag::from_bytes(b"vkrn")
-    };
-    let frac_mask = layout.one_mask(Tag::from_bytes(b"frac"));
-    let numr_mask = layout.one_mask(Tag::from_bytes(b"numr"));
-    let dnom_mask = layout.one_mask(Tag::from_bytes(b"dnom"));
-    let kern_mask = layout.mask(kern_tag);
-    let has_gpos_kern = layout
-        .feature(kern_tag)
-        .is_some_and(|feature| feature.gpos.is_some());
-    let is_script = match rules.gpos_script {
-        Some(script) => script == layout.gpos_script,
-        None => true,
-    };
-    let apply_gpos = is_script && !font.gpos.is_empty();
-    let apply_kern = font.kern.is_there && !(has_gpos_kern && apply_gpos);
-    let adjusts = !apply_gpos && !(apply_kern && font.kern.is_cross_stream);
-    ShapePlan {
-        frac_mask,
-        numr_mask,
-        dnom_mask,
-        has_frac: frac_mask != 0 || numr_mask != 0 && dnom_mask != 0,
-        rtlm_mask: layout.one_mask(Tag::from_bytes(b"rtlm")),
-        has_vert: layout.one_mask(Tag::from_bytes(b"vert")) != 0,
-        kern_mask,
-        requested_kerning: kern_mask != 0,
-        apply_gpos,
-        apply_kern,
-        apply_fallback_kern: !apply_gpos && !apply_kern,
-        zero_marks: rules.zero_marks && !(apply_kern && font.kern.has_machine),
-        has_gpos_mark: layout.one_mask(Tag::from_bytes(b"mark")) != 0,
-        adjust_mark_positioning_when_zeroing: adjusts,
-        fallback_mark_positioning: adjusts && rules.fallback_position,
-        layout,
-    }
+/// What is chosen of a table for a text. These feature tables stand in the place of others.
+fn chosen<'a>(table: &'a [u8], substitutions: &'a [u8], text: &TextProperties) -> ChosenTable<'a> {
+    ChosenTable::new(table, text.scripts, text.languages).with_substitutions(substitutions)
 }

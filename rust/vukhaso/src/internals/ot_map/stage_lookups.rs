@@ -16,6 +16,7 @@ use crate::ot_map::tables::feature_lookup_count;
 pub const MOST_LOOKUPS: usize = 35_000;
 
 /// The lookups of features that are collected for a table.
+#[derive(Debug)]
 struct Collector {
     lookups: Vec<PlannedLookup>,
     /// How many more may be listed.

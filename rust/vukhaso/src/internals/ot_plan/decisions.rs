@@ -9,7 +9,7 @@ use crate::ot_map::{FontLayout, KernLayout, LayoutPlan, ShapePlan};
 use crate::script_shapers::{ScriptShaper, ZeroWidthMarks};
 
 /// The shaper of a text.
-#[derive(Clone, Copy)]
+#[derive(Clone, Copy, Debug)]
 pub(crate) struct ChosenShaper {
     /// The shaper of the script. It says what becomes of marks.
     pub own: ScriptShaper,

@@ -8,6 +8,7 @@ use crate::font_functions::FontFunctions;
 use crate::script_items::FontGlyphs;
 
 /// A font, as the shapers of scripts ask it.
+#[derive(Debug)]
 pub struct FaceGlyphs<'a, F> {
     /// The face, which has the scale.
     pub face: &'a Face<'a>,

@@ -63,7 +63,7 @@ impl TextPlan {
 }
 
 /// What is said of a text, as HarfBuzz's `hb_segment_properties_t`.
-#[derive(Clone, Copy)]
+#[derive(Clone, Copy, Debug)]
 pub(crate) struct SegmentProperties<'a> {
     /// The direction.
     pub direction: Direction,

@@ -9,7 +9,8 @@ use crate::font_functions::FontFunctions;
 use crate::font_variations::Deltas;
 use crate::glyph_digests::Digest;
 use crate::memory::AllocError;
-use crate::ot_gpos::{Setting, position_start};
+use crate::ot_attachments::position_start;
+use crate::ot_gpos::Setting;
 use crate::ot_gpos_tables::contour_points::{ContourPoint, ContourPoints};
 use crate::ot_gpos_tables::instance::Instance;
 use crate::ot_gpos_tables::kern_table::KernTable;
@@ -29,6 +30,7 @@ fn instance_of<'a>(face: &'a Face) -> Instance<'a> {
 }
 
 /// A font, as its lookups ask it for points of outlines.
+#[derive(Debug)]
 struct FontPoints<'a, F> {
     font: &'a F,
 }
@@ -173,5 +175,5 @@ fn apply_kern(buffer: &mut hb_buffer_t, face: &Face, mask: u32) {
         random: false,
     };
     let table = KernTable::new(face.layout.kern);
-    crate::ot_gpos::kern(buffer, &table, &face.scale, &options);
+    crate::ot_kern::kern(buffer, &table, &face.scale, &options);
 }

@@ -6,7 +6,7 @@ use crate::buffer::{Direction, hb_buffer_t};
 use crate::font_face::Face;
 use crate::font_functions::FontFunctions;
 use crate::memory::AllocError;
-use crate::ot_gpos::position_finish_offsets;
+use crate::ot_attachments::position_finish_offsets;
 use crate::ot_map::ShapePlan;
 use crate::ot_plan::{Step, TextPlan, Watch};
 use crate::ot_positioning::lookups::position_by_lookups;

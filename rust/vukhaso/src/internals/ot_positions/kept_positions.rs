@@ -23,6 +23,7 @@ pub(crate) struct KeptPosition {
 }
 
 /// The positions of glyphs in the lines of a direction.
+#[derive(Debug)]
 pub(crate) struct FontPositions<'f, 'a, F> {
     /// The face, which has the scale.
     pub face: &'f Face<'a>,

@@ -7,7 +7,7 @@ use crate::common::Direction;
 use crate::glyph::GlyphExtents;
 
 /// How a line runs.
-#[derive(Clone, Copy)]
+#[derive(Clone, Copy, Debug)]
 pub(crate) struct Line {
     /// The way in which the glyphs stand.
     pub direction: Direction,
@@ -18,7 +18,7 @@ pub(crate) struct Line {
 }
 
 /// A base with the marks that were put around it.
-#[derive(Clone, Copy)]
+#[derive(Clone, Copy, Debug)]
 pub(crate) struct Marks {
     line: Line,
     /// The base.

@@ -283,7 +283,7 @@ fn reverse_if(buffer: &mut hb_buffer_t, is_against: bool) {
 }
 
 /// How the text of a line is shaped.
-#[derive(Clone, Copy)]
+#[derive(Clone, Copy, Debug)]
 struct TextLine<'a> {
     /// The plan of the text.
     plan: &'a TextPlan,

@@ -10,6 +10,7 @@ use crate::ot_shape::shaping::shape_planned;
 use crate::verification::{Original, ShapeError, ShapesParts, verify};
 
 /// How a text and parts of it are shaped.
+#[derive(Debug)]
 struct Shaping<'a, F> {
     face: &'a Face<'a>,
     font: &'a F,

@@ -6,7 +6,7 @@ use crate::common::{Script, Tag};
 use crate::memory::AllocError;
 use crate::ot_map::{FeatureFlags, LayoutPlan, Pause, PlanBuilder};
 use crate::script_indic::plan::{ConsonantForms, IndicMasks, IndicPlan};
-use crate::script_syllables::requests::{add_all, add_in_stages};
+use crate::script_syllables::requests::{MANUAL_JOINERS, PER_SYLLABLE, add_all, add_in_stages};
 
 /// The basic features, each in a stage of its own, and whether every glyph has it.
 const BASIC_FEATURES: [(&[u8; 4], bool); 11] = [
@@ -33,17 +33,10 @@ const OTHER_FEATURES: [(&[u8; 4], bool); 6] = [
     (b"haln", true),
 ];
 
-/// A match ends with its syllable.
-const PER_SYLLABLE: FeatureFlags = FeatureFlags {
-    per_syllable: true,
-    ..FeatureFlags::NONE
-};
-
 /// A match ends with its syllable, and passes over no joiner.
-const MANUAL_JOINERS: FeatureFlags = FeatureFlags {
-    manual_zwnj: true,
-    manual_zwj: true,
-    ..PER_SYLLABLE
+const WITHIN_SYLLABLE: FeatureFlags = FeatureFlags {
+    per_syllable: true,
+    ..MANUAL_JOINERS
 };
 
 /// Asks for the features, with the pauses at which syllables are found and reordered.
@@ -63,9 +56,9 @@ pub fn collect_features(builder: &mut PlanBuilder) -> Result<(), AllocError> {
     builder.enable_feature(Tag::from_bytes(b"locl"), PER_SYLLABLE)?;
     builder.enable_feature(Tag::from_bytes(b"ccmp"), PER_SYLLABLE)?;
     builder.add_gsub_pause(Pause::InitialReordering)?;
-    add_in_stages(builder, &BASIC_FEATURES, MANUAL_JOINERS)?;
+    add_in_stages(builder, &BASIC_FEATURES, WITHIN_SYLLABLE)?;
     builder.add_gsub_pause(Pause::FinalReordering)?;
-    add_all(builder, &OTHER_FEATURES, MANUAL_JOINERS)
+    add_all(builder, &OTHER_FEATURES, WITHIN_SYLLABLE)
 }
 
 /// Turns standard ligatures off, behind the features of a user.

@@ -14,6 +14,7 @@ use crate::script_indic::pref::move_pref;
 use crate::script_indic::reph::move_reph;
 use crate::script_items::item::general_category;
 use crate::script_syllables::item::{add_mask, is_ligated, position, set_category};
+use crate::script_syllables::reordering::{SyllableOrder, reorder_syllables};
 use crate::script_syllables::syllables::within;
 use crate::script_syllables::{Category, Position};
 use core::ops::Range;
@@ -25,14 +26,20 @@ use core::ops::Range;
 /// - `buffer.old.have_output ≡ false`
 pub(crate) fn order_finally(buffer: &mut hb_buffer_t, plan: &IndicPlan, virama: Option<u32>) {
     debug_assert!(!buffer.have_output());
-    let mut start = 0;
-    for _turn in 0..buffer.len() {
-        if start >= buffer.len() {
-            break;
-        }
-        let end = buffer.next_syllable(start);
-        order_syllable(buffer, &(start..end), plan, virama);
-        start = end;
+    reorder_syllables(buffer, &FinalOrder { plan, virama });
+}
+
+/// The order of syllables after the basic features.
+#[derive(Clone, Copy, Debug)]
+struct FinalOrder<'a> {
+    plan: &'a IndicPlan,
+    /// The glyph of the halant.
+    virama: Option<u32>,
+}
+
+impl<'a> SyllableOrder for FinalOrder<'a> {
+    fn reorder_syllable(&self, buffer: &mut hb_buffer_t, range: &Range<usize>) {
+        order_syllable(buffer, range, self.plan, self.virama);
     }
 }
 

@@ -3,8 +3,8 @@
 //! What an item of an Indic syllable is, by its category and by what became of its glyph.
 
 use crate::glyph::{GlyphPropsFlags, hb_glyph_info_t};
-use crate::script_syllables::Category;
 use crate::script_syllables::item::{category, has, is_ligated};
+use crate::script_syllables::{Category, item};
 
 /// Whether the glyph is one of several that a lookup made of one.
 pub(crate) fn is_multiplied(info: &hb_glyph_info_t) -> bool {
@@ -22,19 +22,10 @@ pub(crate) fn forget_ligature(info: &mut hb_glyph_info_t) {
     info.set_glyph_props(info.glyph_props() & !forgotten);
 }
 
-/// Whether the item is a consonant, or what takes signs as one. What became a ligature is none.
+/// Whether the item is a consonant, a medial one too, or what takes signs as one. What became a
+/// ligature is none.
 pub(crate) fn is_consonant(info: &hb_glyph_info_t) -> bool {
-    !is_ligated(info)
-        && matches!(
-            category(info),
-            Category::Consonant
-                | Category::ConsonantWithStacker
-                | Category::Ra
-                | Category::ConsonantMedial
-                | Category::Vowel
-                | Category::Placeholder
-                | Category::DottedCircle
-        )
+    item::is_consonant(info) || is_one(info, Category::ConsonantMedial)
 }
 
 /// Whether the item is a joiner or a non-joiner, and no ligature.

@@ -9,7 +9,7 @@ use crate::ot_map::{LayoutPlan, Pause};
 use crate::script_indic::IndicPlan;
 use crate::script_shapers::shaper::ScriptShaper;
 use crate::script_syllables::{FontForms, item};
-use crate::script_universal::{KhmerPlan, UniversalPlan, khmer, myanmar, universal};
+use crate::script_universal::{KhmerPlan, MyanmarShaper, UniversalPlan, khmer, universal};
 
 /// How a text that is written in syllables is shaped by a font.
 #[derive(Clone, Copy, PartialEq, Eq, Debug)]
@@ -78,8 +78,10 @@ impl SyllablePlan {
         debug_assert!(!buffer.have_output());
         match self {
             SyllablePlan::Indic(plan) => plan.pause(buffer, font, pause),
-            SyllablePlan::Khmer(plan) => plan.pause(buffer, font, pause),
-            SyllablePlan::Myanmar => myanmar::plan::pause(buffer, font, pause),
+            SyllablePlan::Khmer(plan) => crate::script_universal::pause(plan, buffer, font, pause),
+            SyllablePlan::Myanmar => {
+                crate::script_universal::pause(&MyanmarShaper, buffer, font, pause)
+            }
             SyllablePlan::Universal(plan) => plan.pause(buffer, font, pause),
             SyllablePlan::None => Ok(true),
         }

@@ -74,6 +74,25 @@ pub fn set_position(info: &mut hb_glyph_info_t, position: Position) {
     info.var2 = info.var2 % 0x100_0000 + u32::from(position as u8) * 0x100_0000;
 }
 
+/// Whether an item is a consonant, or what takes signs as one. What became a ligature is none.
+///
+/// # Proved
+///
+/// That it returns.
+#[inline]
+pub fn is_consonant(info: &hb_glyph_info_t) -> bool {
+    !is_ligated(info)
+        && matches!(
+            category(info),
+            Category::Consonant
+                | Category::ConsonantWithStacker
+                | Category::Ra
+                | Category::Vowel
+                | Category::Placeholder
+                | Category::DottedCircle
+        )
+}
+
 /// Lets each character keep its category and its position.
 ///
 /// # Proved

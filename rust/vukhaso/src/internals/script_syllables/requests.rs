@@ -6,6 +6,32 @@ use crate::common::Tag;
 use crate::memory::AllocError;
 use crate::ot_map::{FeatureFlags, Pause, PlanBuilder};
 
+/// A match ends with its syllable.
+pub const PER_SYLLABLE: FeatureFlags = FeatureFlags {
+    per_syllable: true,
+    ..FeatureFlags::NONE
+};
+
+/// An input passes over no joiner.
+pub const MANUAL_JOINER: FeatureFlags = FeatureFlags {
+    manual_zwj: true,
+    ..FeatureFlags::NONE
+};
+
+/// A match passes over no joiner.
+pub const MANUAL_JOINERS: FeatureFlags = FeatureFlags {
+    manual_zwnj: true,
+    ..MANUAL_JOINER
+};
+
+/// The features of presentation forms, and whether every glyph has it.
+pub const PRESENTATION_FEATURES: [(&[u8; 4], bool); 4] = [
+    (b"pres", true),
+    (b"abvs", true),
+    (b"blws", true),
+    (b"psts", true),
+];
+
 /// Asks for features in one stage. Beside the name of each is whether every glyph has it.
 ///
 /// # Errors
@@ -15,7 +41,8 @@ use crate::ot_map::{FeatureFlags, Pause, PlanBuilder};
 /// # Proved
 ///
 /// ```text
-/// ensures { HasSamePauses builder.old builder.new }
+/// ensures pauses { HasSamePauses builder.old builder.new }
+/// ensures asks { IfOk result (λ _. Asks (map (λ it. of_some flags it.1 it.0.now) features.now) builder.old builder.new) }
 /// ```
 #[inline]
 pub fn add_all(
@@ -39,7 +66,9 @@ pub fn add_all(
 /// # Proved
 ///
 /// ```text
-/// ensures { IfOk result (λ _. builder.new.pauses.items ≡ builder.old.pauses.items ++ replicate (length features.now) Nothing) }
+/// ensures pauses { IfOk result (λ _. builder.new.pauses.items ≡ builder.old.pauses.items ++ replicate (length features.now) Nothing) }
+/// ensures asks { IfOk result
+///     (λ _. Asks (in_stages (map (λ it. of_some flags it.1 it.0.now) features.now)) builder.old builder.new) }
 /// ```
 #[inline]
 pub fn add_in_stages(
@@ -62,5 +91,6 @@ fn add_one(
     flags: FeatureFlags,
 ) -> Result<(), AllocError> {
     let flags = FeatureFlags { is_global, ..flags };
-    builder.add_feature(Tag::from_bytes(name), flags, 1)
+    builder.add_feature(Tag::from_bytes(name), flags, 1)?;
+    Ok(())
 }

@@ -19,6 +19,7 @@ use crate::common::tag::{TAG_LEN, Tag};
 /// ghost Value = { List ℕ }
 /// ghost view = { λ p. p.rest.now }
 /// ```
+#[derive(Debug)]
 pub struct TextParser<'a> {
     rest: &'a [u8],
 }

@@ -15,6 +15,7 @@ use crate::verification::shape_error::ShapeError;
 const CONTEXT_LENGTH: usize = 5;
 
 /// A text before it is shaped: its characters with their clusters, and what was said of it.
+#[derive(Debug)]
 pub struct Original {
     /// The characters.
     pub characters: Vec<hb_glyph_info_t>,

@@ -41,7 +41,7 @@ impl core::fmt::Display for VerifyError {
 impl core::error::Error for VerifyError {}
 
 /// Glyphs with their positions, in the order of the text.
-#[derive(Clone, Copy)]
+#[derive(Clone, Copy, Debug)]
 struct InOrder<'a> {
     infos: &'a [hb_glyph_info_t],
     positions: &'a [GlyphPosition],

@@ -156,10 +156,6 @@ fn features_are_found_by_their_types() {
         ),
         (Some(2), Some(4), None)
     );
-    assert_eq!(
-        (ligatures.default_place(), alternates.default_place()),
-        (0, 2)
-    );
 }
 
 #[test]

@@ -9,12 +9,12 @@ use vukhaso::internals::font_tables::gdef::Gdef;
 use vukhaso::internals::font_tables::scale::Scale;
 use vukhaso::internals::font_variations::Deltas;
 use vukhaso::internals::glyph::GlyphPosition;
-use vukhaso::internals::ot_gpos::{
-    Setting, kern, position, position_finish_offsets, position_start,
-};
+use vukhaso::internals::ot_attachments::{position_finish_offsets, position_start};
+use vukhaso::internals::ot_gpos::{Setting, position};
 use vukhaso::internals::ot_gpos_tables::contour_points::NoPoints;
 use vukhaso::internals::ot_gpos_tables::instance::Instance;
 use vukhaso::internals::ot_gpos_tables::kern_table::KernTable;
+use vukhaso::internals::ot_kern::kern;
 use vukhaso::internals::ot_layout::budget::Budget;
 use vukhaso::internals::ot_layout::search::Search;
 use vukhaso::internals::ot_layout::skipping_iterator::LookupOptions;

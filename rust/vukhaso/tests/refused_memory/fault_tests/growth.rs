@@ -9,14 +9,14 @@ use vukhaso::internals::buffer::{UnicodeBuffer, hb_buffer_t};
 use vukhaso::memory::AllocError;
 
 /// A call that makes a text grow.
-#[derive(Clone, Copy)]
+#[derive(Clone, Copy, Debug)]
 pub enum Step<'a> {
     Push(&'a str),
     Add(char, u32),
 }
 
 /// Steps that make a text grow.
-#[derive(Clone, Copy)]
+#[derive(Clone, Copy, Debug)]
 pub struct Growth<'a> {
     pub name: &'a str,
     pub least: u32,

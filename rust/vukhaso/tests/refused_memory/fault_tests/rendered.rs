@@ -10,7 +10,7 @@ use vukhaso::internals::runs::{Answer, Call, RenderFault, render, render_at};
 use vukhaso::internals::text::{Feature, Tag};
 
 /// A text with features, and with calls of which one puts out more than it reads.
-#[derive(Clone, Copy)]
+#[derive(Clone, Copy, Debug)]
 pub struct Rendered<'a> {
     pub name: &'a str,
     pub least: u32,

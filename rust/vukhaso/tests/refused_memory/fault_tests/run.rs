@@ -19,7 +19,7 @@ const LEVELS: [u32; 4] = [0, 1, 2, 3];
 const NONE_YET: Answer = Answer::Outside;
 
 /// A list of calls on a buffer over a text. Those before it are part of the preparation.
-#[derive(Clone, Copy)]
+#[derive(Clone, Copy, Debug)]
 pub struct Run<'a> {
     pub name: &'a str,
     pub least: u32,
@@ -50,6 +50,7 @@ pub const PLAIN: Run<'static> = Run {
 };
 
 /// A buffer before the calls, and what an undisturbed run leaves and answers.
+#[derive(Debug)]
 pub struct Begun {
     level: u32,
     buffer: hb_buffer_t,

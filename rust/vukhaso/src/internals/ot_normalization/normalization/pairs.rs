@@ -9,6 +9,7 @@ use crate::script_items::item::is_unicode_mark;
 use crate::script_shapers::{ScriptPlan, ScriptShaper};
 
 /// How marks are composed.
+#[derive(Debug)]
 pub(crate) struct Composing<'a, F> {
     /// The font.
     pub font: &'a F,

@@ -7,6 +7,7 @@ use crate::passes::normalization::FontCharacters;
 use crate::script_shapers::ScriptShaper;
 
 /// How characters are taken apart.
+#[derive(Debug)]
 pub(crate) struct Decomposer<'a, F> {
     /// The font.
     pub font: &'a F,

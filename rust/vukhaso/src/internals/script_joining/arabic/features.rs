@@ -33,55 +33,89 @@ const MANUAL_JOINER_WITH_FALLBACK: FeatureFlags = FeatureFlags {
 ///
 /// # Proved
 ///
-/// That it returns.
+/// ```text
+/// ensures { IfOk result (λ _. Asks
+///     (arabic_features (is_arabic script) (has_feature builder.old (tag_of (codes "rclt")))) builder.old builder.new) }
+/// ```
 #[inline]
 pub fn collect_features(
     builder: &mut PlanBuilder,
     script: Option<Script>,
 ) -> Result<(), AllocError> {
-    let is_arabic = script == Some(script::ARABIC);
+    let is_arabic = is_arabic(script);
+    add_first_stages(builder)?;
+    add_forms(builder, &FORM_FEATURES, is_arabic)?;
+    builder.enable_feature(Tag::from_bytes(b"rlig"), MANUAL_JOINER_WITH_FALLBACK)?;
+    end_stage_if(builder, is_arabic, Pause::ArabicFallback)?;
+    add_ligatures(builder)?;
+    Ok(())
+}
+
+/// Whether a script is Arabic.
+fn is_arabic(script: Option<Script>) -> bool {
+    match script {
+        Some(script) => script == script::ARABIC,
+        None => false,
+    }
+}
+
+/// Asks for the marks that are stretched, and what letters are composed of.
+fn add_first_stages(builder: &mut PlanBuilder) -> Result<(), AllocError> {
     builder.enable_feature(Tag::from_bytes(b"stch"), FeatureFlags::NONE)?;
     builder.add_gsub_pause(Pause::RecordStch)?;
     builder.enable_feature(Tag::from_bytes(b"ccmp"), MANUAL_JOINER)?;
     builder.enable_feature(Tag::from_bytes(b"locl"), MANUAL_JOINER)?;
     builder.add_gsub_pause(Pause::Nothing)?;
-    add_forms(builder, is_arabic)?;
-    builder.enable_feature(Tag::from_bytes(b"rlig"), MANUAL_JOINER_WITH_FALLBACK)?;
-    if is_arabic {
-        builder.add_gsub_pause(Pause::ArabicFallback)?;
-    }
-    add_ligatures(builder)
+    Ok(())
 }
 
 /// Asks for the features of forms, each in a stage of its own. Those of Arabic have a fallback.
-fn add_forms(builder: &mut PlanBuilder, is_arabic: bool) -> Result<(), AllocError> {
-    for name in FORM_FEATURES {
-        let flags = if is_arabic && !is_syriac(name) {
-            MANUAL_JOINER_WITH_FALLBACK
-        } else {
-            MANUAL_JOINER
-        };
+fn add_forms(
+    builder: &mut PlanBuilder,
+    names: &[&[u8; 4]],
+    is_arabic: bool,
+) -> Result<(), AllocError> {
+    for name in names {
+        let flags = form_flags(name, is_arabic);
         builder.add_feature(Tag::from_bytes(name), flags, 1)?;
         builder.add_gsub_pause(Pause::Nothing)?;
     }
     Ok(())
 }
 
+/// How the feature of a form is applied.
+fn form_flags(name: &[u8; 4], is_arabic: bool) -> FeatureFlags {
+    if is_arabic && !is_syriac(name) {
+        MANUAL_JOINER_WITH_FALLBACK
+    } else {
+        MANUAL_JOINER
+    }
+}
+
 /// Whether only Syriac letters have the form: its feature ends with a number.
 fn is_syriac(name: &[u8; 4]) -> bool {
-    matches!(name[3], b'2' | b'3')
+    name[3] == b'2' || name[3] == b'3'
+}
+
+/// Ends a stage, or does not.
+fn end_stage_if(builder: &mut PlanBuilder, ends: bool, pause: Pause) -> Result<(), AllocError> {
+    if !ends {
+        return Ok(());
+    }
+    builder.add_gsub_pause(pause)?;
+    Ok(())
 }
 
 /// Asks for contextual forms, and for ligatures behind them unless the font has contextual forms that
 /// it requires.
 fn add_ligatures(builder: &mut PlanBuilder) -> Result<(), AllocError> {
     builder.enable_feature(Tag::from_bytes(b"calt"), MANUAL_JOINER)?;
-    if !builder.has_feature(Tag::from_bytes(b"rclt")) {
-        builder.add_gsub_pause(Pause::Nothing)?;
-    }
+    let requires_forms = builder.has_feature(Tag::from_bytes(b"rclt"));
+    end_stage_if(builder, !requires_forms, Pause::Nothing)?;
     builder.enable_feature(Tag::from_bytes(b"liga"), MANUAL_JOINER)?;
     builder.enable_feature(Tag::from_bytes(b"clig"), MANUAL_JOINER)?;
-    builder.enable_feature(Tag::from_bytes(b"mset"), MANUAL_JOINER)
+    builder.enable_feature(Tag::from_bytes(b"mset"), MANUAL_JOINER)?;
+    Ok(())
 }
 
 /// Whether the font has none of the forms of Arabic letters that a fallback makes.

@@ -18,12 +18,13 @@ pub const JAMO_FEATURES: [&[u8; 4]; 3] = [b"ljmo", b"vjmo", b"tjmo"];
 /// # Proved
 ///
 /// ```text
-/// ensures { HasSamePauses builder.old builder.new }
+/// ensures pauses { HasSamePauses builder.old builder.new }
+/// ensures asks { IfOk result (λ _. Asks hangul_features builder.old builder.new) }
 /// ```
 #[inline]
 pub fn add_jamo_features(builder: &mut PlanBuilder) -> Result<(), AllocError> {
-    for name in JAMO_FEATURES {
-        builder.add_feature(Tag::from_bytes(name), FeatureFlags::NONE, 1)?;
-    }
+    builder.add_feature(Tag::from_bytes(b"ljmo"), FeatureFlags::NONE, 1)?;
+    builder.add_feature(Tag::from_bytes(b"vjmo"), FeatureFlags::NONE, 1)?;
+    builder.add_feature(Tag::from_bytes(b"tjmo"), FeatureFlags::NONE, 1)?;
     Ok(())
 }

@@ -7,30 +7,20 @@ use crate::script_syllables::Category;
 use crate::script_syllables::clusters::merge;
 use crate::script_syllables::item::{add_mask, category};
 use crate::script_syllables::moves::move_last;
+use crate::script_syllables::reordering::SyllableOrder;
 use crate::script_syllables::syllables::kind_at;
-use crate::script_universal::khmer::plan::{BROKEN, KhmerPlan};
+use crate::script_universal::khmer::plan::KhmerPlan;
+use crate::script_universal::pauses::BROKEN;
 use core::ops::Range;
 
 /// How many coengs of a syllable there may be before one that is looked at.
 const MOST_COENGS: usize = 2;
 
-/// Puts the glyphs of each syllable in order.
-///
-/// # Requires
-///
-/// - `buffer.old.have_output ≡ false`
-pub(crate) fn order_syllables(buffer: &mut hb_buffer_t, plan: &KhmerPlan) {
-    debug_assert!(!buffer.have_output());
-    let mut start = 0;
-    for _turn in 0..buffer.len() {
-        if start >= buffer.len() {
-            break;
+impl SyllableOrder for KhmerPlan {
+    fn reorder_syllable(&self, buffer: &mut hb_buffer_t, range: &Range<usize>) {
+        if kind_at(buffer.info(), range.start) <= BROKEN {
+            order_syllable(buffer, range, self);
         }
-        let end = buffer.next_syllable(start);
-        if kind_at(buffer.info(), start) <= BROKEN {
-            order_syllable(buffer, &(start..end), plan);
-        }
-        start = end;
     }
 }
 

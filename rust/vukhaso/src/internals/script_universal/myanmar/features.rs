@@ -5,7 +5,9 @@
 use crate::common::Tag;
 use crate::memory::AllocError;
 use crate::ot_map::{FeatureFlags, Pause, PlanBuilder};
-use crate::script_syllables::requests::{add_all, add_in_stages};
+use crate::script_syllables::requests::{
+    MANUAL_JOINER, PER_SYLLABLE, PRESENTATION_FEATURES, add_all, add_in_stages,
+};
 
 /// The basic features, each in a stage of its own, and whether every glyph has it.
 const BASIC_FEATURES: [(&[u8; 4], bool); 4] = [
@@ -14,26 +16,6 @@ const BASIC_FEATURES: [(&[u8; 4], bool); 4] = [
     (b"blwf", true),
     (b"pstf", true),
 ];
-
-/// The features after syllables are forgotten, and whether every glyph has it.
-const OTHER_FEATURES: [(&[u8; 4], bool); 4] = [
-    (b"pres", true),
-    (b"abvs", true),
-    (b"blws", true),
-    (b"psts", true),
-];
-
-/// A match ends with its syllable.
-const PER_SYLLABLE: FeatureFlags = FeatureFlags {
-    per_syllable: true,
-    ..FeatureFlags::NONE
-};
-
-/// An input passes over no joiner.
-const MANUAL_JOINER: FeatureFlags = FeatureFlags {
-    manual_zwj: true,
-    ..FeatureFlags::NONE
-};
 
 /// Asks for the features, with the pauses at which syllables are found and reordered.
 ///
@@ -58,5 +40,5 @@ pub fn collect_features(builder: &mut PlanBuilder) -> Result<(), AllocError> {
     };
     add_in_stages(builder, &BASIC_FEATURES, flags)?;
     builder.add_gsub_pause(Pause::Nothing)?;
-    add_all(builder, &OTHER_FEATURES, MANUAL_JOINER)
+    add_all(builder, &PRESENTATION_FEATURES, MANUAL_JOINER)
 }

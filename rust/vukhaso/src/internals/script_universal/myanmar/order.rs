@@ -6,29 +6,19 @@ use crate::buffer::{hb_buffer_t, hb_glyph_info_t};
 use crate::script_syllables::clusters::merge;
 use crate::script_syllables::item::{category, position};
 use crate::script_syllables::moves::{move_last, turn};
+use crate::script_syllables::reordering::SyllableOrder;
 use crate::script_syllables::syllables::{kind_at, within};
 use crate::script_syllables::{Category, Position};
-use crate::script_universal::myanmar::plan::BROKEN;
+use crate::script_universal::myanmar::plan::MyanmarShaper;
 use crate::script_universal::myanmar::positions::set_positions;
+use crate::script_universal::pauses::BROKEN;
 use core::ops::Range;
 
-/// Puts the glyphs of each syllable in order.
-///
-/// # Requires
-///
-/// - `buffer.old.have_output ≡ false`
-pub(crate) fn order_syllables(buffer: &mut hb_buffer_t) {
-    debug_assert!(!buffer.have_output());
-    let mut start = 0;
-    for _turn in 0..buffer.len() {
-        if start >= buffer.len() {
-            break;
+impl SyllableOrder for MyanmarShaper {
+    fn reorder_syllable(&self, buffer: &mut hb_buffer_t, range: &Range<usize>) {
+        if kind_at(buffer.info(), range.start) <= BROKEN {
+            order_syllable(buffer, range);
         }
-        let end = buffer.next_syllable(start);
-        if kind_at(buffer.info(), start) <= BROKEN {
-            order_syllable(buffer, &(start..end));
-        }
-        start = end;
     }
 }
 

@@ -1,89 +1,17 @@
 // Written by tools/plain_rust from crates/script_universal. Do not edit.
 
-//! How a Myanmar text is shaped by a font.
+//! How a Myanmar text is shaped.
 
-use crate::buffer::hb_buffer_t;
-use crate::memory::AllocError;
-use crate::ot_map::Pause;
-use crate::script_syllables::dotted_circle::{CircleKind, insert_dotted_circles};
-use crate::script_syllables::grammar::Grammar;
-use crate::script_syllables::syllables::find_syllables;
-use crate::script_syllables::{Category, FontForms, Position};
+use crate::script_syllables::Machine;
 use crate::script_universal::myanmar::machine::myanmar_machine;
-use crate::script_universal::myanmar::order::order_syllables;
+use crate::script_universal::pauses::ReorderingShaper;
 
-/// The kind of syllables without a base.
-pub(crate) const BROKEN: u8 = 1;
+/// How a Myanmar text is shaped, by any font.
+#[derive(Clone, Copy, PartialEq, Eq, Debug)]
+pub struct MyanmarShaper;
 
-const CIRCLE: CircleKind = CircleKind {
-    category: Category::DottedCircle as u8,
-    position: Position::Start,
-    repha: None,
-    broken: BROKEN,
-};
-
-/// What is done at a pause of a Myanmar text.
-///
-/// # Requires
-///
-/// - `buffer.old.have_output ≡ false`
-///
-/// # Errors
-///
-/// `Ok(false)` where the text would become too long. `Err(AllocError)` where memory ran out.
-///
-/// # Proved
-///
-/// ```text
-/// ensures closed { IfOk result (λ done. done ≡ true → buffer.new.have_output ≡ false) }
-/// ensures keeps { KeepsNumbers buffer.old buffer.new }
-/// ```
-#[inline]
-pub fn pause<F: FontForms>(
-    buffer: &mut hb_buffer_t,
-    font: &F,
-    pause: Pause,
-) -> Result<bool, AllocError> {
-    debug_assert!(!buffer.have_output());
-    match pause {
-        Pause::SetUpSyllables => {
-            setup_syllables(buffer);
-            Ok(true)
-        }
-        Pause::InitialReordering => reordering(buffer, font),
-        _ => Ok(true),
+impl ReorderingShaper for MyanmarShaper {
+    fn machine(&self) -> Machine<'static> {
+        myanmar_machine()
     }
-}
-
-/// Finds the syllables, before the first lookups.
-///
-/// # Requires
-///
-/// - `buffer.old.have_output ≡ false`
-fn setup_syllables(buffer: &mut hb_buffer_t) {
-    debug_assert!(!buffer.have_output());
-    let grammar = Grammar {
-        machine: myanmar_machine(),
-        broken: BROKEN,
-        passes_over: false,
-    };
-    find_syllables(buffer, &grammar);
-}
-
-/// Puts the glyphs of each syllable in order.
-///
-/// # Requires
-///
-/// - `buffer.old.have_output ≡ false`
-///
-/// # Errors
-///
-/// `Ok(false)` where the text would become too long.
-fn reordering<F: FontForms>(buffer: &mut hb_buffer_t, font: &F) -> Result<bool, AllocError> {
-    debug_assert!(!buffer.have_output());
-    if !insert_dotted_circles(buffer, font, CIRCLE)? {
-        return Ok(false);
-    }
-    order_syllables(buffer);
-    Ok(true)
 }

@@ -3,7 +3,7 @@
 //! Where each item of a Myanmar syllable belongs.
 
 use crate::buffer::hb_glyph_info_t;
-use crate::script_syllables::item::{category, is_ligated, position, set_position};
+use crate::script_syllables::item::{category, is_consonant, position, set_position};
 use crate::script_syllables::{Category, Position};
 
 /// How many items a kinzi has: RA, an asat and a halant.
@@ -46,20 +46,6 @@ fn base_of(syllable: &[hb_glyph_info_t], kinzi: usize) -> usize {
         }
     }
     kinzi
-}
-
-/// Whether an item is a consonant, or what takes signs as one.
-fn is_consonant(info: &hb_glyph_info_t) -> bool {
-    !is_ligated(info)
-        && matches!(
-            category(info),
-            Category::Consonant
-                | Category::ConsonantWithStacker
-                | Category::Ra
-                | Category::Vowel
-                | Category::Placeholder
-                | Category::DottedCircle
-        )
 }
 
 /// Gives the signs behind the base their positions.

@@ -6,7 +6,7 @@
 use crate::common::Tag;
 use crate::memory::AllocError;
 use crate::ot_map::{FeatureFlags, LayoutPlan, Pause, PlanBuilder};
-use crate::script_syllables::requests::add_all;
+use crate::script_syllables::requests::{MANUAL_JOINER, PER_SYLLABLE, add_all};
 use crate::script_universal::universal::plan::{FormMasks, UniversalPlan};
 
 /// The features of single letters, and whether every glyph has it.
@@ -39,18 +39,6 @@ const OTHER_FEATURES: [(&[u8; 4], bool); 5] = [
     (b"pres", true),
     (b"psts", true),
 ];
-
-/// A match ends with its syllable.
-const PER_SYLLABLE: FeatureFlags = FeatureFlags {
-    per_syllable: true,
-    ..FeatureFlags::NONE
-};
-
-/// An input passes over no joiner.
-const MANUAL_JOINER: FeatureFlags = FeatureFlags {
-    manual_zwj: true,
-    ..FeatureFlags::NONE
-};
 
 /// An input passes over no joiner, and ends with its syllable.
 const WITHIN_SYLLABLE: FeatureFlags = FeatureFlags {

@@ -5,9 +5,10 @@
 use crate::buffer::{hb_buffer_t, hb_glyph_info_t};
 use crate::script_syllables::clusters::merge;
 use crate::script_syllables::moves::{move_first, move_last};
+use crate::script_syllables::reordering::SyllableOrder;
 use crate::script_syllables::syllables::{kind_at, syllable};
 use crate::script_universal::universal::item::{is, is_behind_base, is_halant};
-use crate::script_universal::universal::plan::BROKEN;
+use crate::script_universal::universal::plan::{BROKEN, UniversalPlan};
 use crate::universal_categories::UniversalCategory;
 use core::ops::Range;
 
@@ -16,24 +17,12 @@ const STANDARD: u8 = 2;
 
 const SYMBOL: u8 = 5;
 
-/// Puts the glyphs of each syllable in order.
-///
-/// # Requires
-///
-/// - `buffer.old.have_output ≡ false`
-pub(crate) fn order_syllables(buffer: &mut hb_buffer_t) {
-    debug_assert!(!buffer.have_output());
-    let mut start = 0;
-    for _turn in 0..buffer.len() {
-        if start >= buffer.len() {
-            break;
+impl SyllableOrder for UniversalPlan {
+    fn reorder_syllable(&self, buffer: &mut hb_buffer_t, range: &Range<usize>) {
+        if is_reordered(kind_at(buffer.info(), range.start)) {
+            move_repha(buffer, range);
+            move_fronts(buffer, range);
         }
-        let end = buffer.next_syllable(start);
-        if is_reordered(kind_at(buffer.info(), start)) {
-            move_repha(buffer, &(start..end));
-            move_fronts(buffer, &(start..end));
-        }
-        start = end;
     }
 }
 

@@ -5,17 +5,15 @@
 use crate::buffer::hb_buffer_t;
 use crate::memory::AllocError;
 use crate::ot_map::Pause;
-use crate::script_syllables::dotted_circle::{CircleKind, insert_dotted_circles};
+use crate::script_syllables::dotted_circle::CircleKind;
 use crate::script_syllables::grammar::Grammar;
+use crate::script_syllables::reordering::reorder;
 use crate::script_syllables::syllables::find_syllables;
 use crate::script_syllables::{FontForms, Position};
 use crate::script_universal::universal::item::mark_passed_over;
 use crate::script_universal::universal::machine::universal_machine;
 use crate::script_universal::universal::masks::{mask_forms, mask_rephs};
-use crate::script_universal::universal::order::order_syllables;
-use crate::script_universal::universal::recorded::{
-    forget_substitutions, record_prefs, record_rephs,
-};
+use crate::script_universal::universal::recorded::{Recorded, forget_substitutions, record_made};
 use crate::universal_categories::UniversalCategory;
 
 /// The kind of syllables without a base.
@@ -26,6 +24,12 @@ const CIRCLE: CircleKind = CircleKind {
     position: Position::Start,
     repha: Some(UniversalCategory::Repha as u8),
     broken: BROKEN,
+};
+
+/// What `pref` makes of glyphs: vowel signs in front.
+const RECORDED_PREF: Recorded = Recorded {
+    mask: None,
+    category: UniversalCategory::VowelPre,
 };
 
 /// How a text of the universal shaper is shaped by a font.
@@ -91,13 +95,21 @@ impl UniversalPlan {
         match pause {
             Pause::SetUpSyllables => self.setup_syllables(buffer),
             Pause::ClearSubstitutionFlags => forget_substitutions(buffer),
-            Pause::RecordRphf => record_rephs(buffer, self.rphf),
-            Pause::RecordPref => record_prefs(buffer),
-            Pause::InitialReordering => return reordering(buffer, font),
+            Pause::RecordRphf => record_made(buffer, self.recorded_reph()),
+            Pause::RecordPref => record_made(buffer, RECORDED_PREF),
+            Pause::InitialReordering => return reorder(buffer, font, CIRCLE, self),
             Pause::FinalReordering | Pause::Nothing | Pause::RecordStch | Pause::ArabicFallback => {
             }
         }
         Ok(true)
+    }
+
+    /// What `rphf` makes of glyphs with its mask at the start of a syllable.
+    fn recorded_reph(&self) -> Recorded {
+        Recorded {
+            mask: Some(self.rphf),
+            category: UniversalCategory::Repha,
+        }
     }
 
     /// Finds the syllables, before the first lookups.
@@ -117,18 +129,4 @@ impl UniversalPlan {
         mask_rephs(buffer, self.rphf);
         mask_forms(buffer, &self.forms);
     }
-}
-
-/// Puts the glyphs of each syllable in order.
-///
-/// # Requires
-///
-/// - `buffer.old.have_output ≡ false`
-fn reordering<F: FontForms>(buffer: &mut hb_buffer_t, font: &F) -> Result<bool, AllocError> {
-    debug_assert!(!buffer.have_output());
-    if !insert_dotted_circles(buffer, font, CIRCLE)? {
-        return Ok(false);
-    }
-    order_syllables(buffer);
-    Ok(true)
 }

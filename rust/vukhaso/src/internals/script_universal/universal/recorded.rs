@@ -27,73 +27,55 @@ fn forget_all(infos: &mut [hb_glyph_info_t]) {
     }
 }
 
-/// Takes the first glyph of each syllable that the feature `rphf` put there for a reph. `mask` is that
-/// of the feature.
+/// A feature of which it is noted where it has made a glyph.
+#[derive(Clone, Copy, Debug)]
+pub(crate) struct Recorded {
+    /// The mask of the first items of a syllable, of which alone it may have made one; `None` where it may have made any.
+    pub(crate) mask: Option<u32>,
+    /// The category of what it has made.
+    pub(crate) category: UniversalCategory,
+}
+
+/// Takes the first glyph of each syllable that a lookup put there for one that the feature made.
 ///
 /// # Requires
 ///
 /// - `buffer.old.have_output ≡ false`
-pub(crate) fn record_rephs(buffer: &mut hb_buffer_t, mask: u32) {
+pub(crate) fn record_made(buffer: &mut hb_buffer_t, recorded: Recorded) {
     debug_assert!(!buffer.have_output());
-    record_all_rephs(buffer.info_slice_mut(), mask);
+    record_all(buffer.info_slice_mut(), recorded);
 }
 
 /// Does that in a list.
-fn record_all_rephs(infos: &mut [hb_glyph_info_t], mask: u32) {
+fn record_all(infos: &mut [hb_glyph_info_t], recorded: Recorded) {
     let mut start = 0;
     for _turn in 0..infos.len() {
         if start >= infos.len() {
             break;
         }
         let end = syllable_end(infos, start);
-        record_reph(infos, start, end, mask);
+        record_first(infos, start, end, recorded);
         start = end;
     }
 }
 
-/// Takes the first of the items with a mask at the start of a syllable that a lookup put there for a
-/// reph.
-fn record_reph(infos: &mut [hb_glyph_info_t], start: usize, end: usize, mask: u32) {
+/// Does that in a syllable.
+fn record_first(infos: &mut [hb_glyph_info_t], start: usize, end: usize, recorded: Recorded) {
     for place in start..end.min(infos.len()) {
-        if infos[place].mask & mask == 0 {
+        if !may_have_made(&infos[place], recorded.mask) {
             return;
         }
         if is_substituted(&infos[place]) {
-            set(&mut infos[place], UniversalCategory::Repha);
+            set(&mut infos[place], recorded.category);
             return;
         }
     }
 }
 
-/// Takes the first glyph of each syllable that the feature `pref` put there for a vowel sign in front.
-///
-/// # Requires
-///
-/// - `buffer.old.have_output ≡ false`
-pub(crate) fn record_prefs(buffer: &mut hb_buffer_t) {
-    debug_assert!(!buffer.have_output());
-    record_all_prefs(buffer.info_slice_mut());
-}
-
-/// Does that in a list.
-fn record_all_prefs(infos: &mut [hb_glyph_info_t]) {
-    let mut start = 0;
-    for _turn in 0..infos.len() {
-        if start >= infos.len() {
-            break;
-        }
-        let end = syllable_end(infos, start);
-        record_pref(infos, start, end);
-        start = end;
-    }
-}
-
-/// Takes the first item of a syllable that a lookup put there for a vowel sign in front.
-fn record_pref(infos: &mut [hb_glyph_info_t], start: usize, end: usize) {
-    for place in start..end.min(infos.len()) {
-        if is_substituted(&infos[place]) {
-            set(&mut infos[place], UniversalCategory::VowelPre);
-            return;
-        }
+/// Whether a feature with this mask may have made a glyph.
+fn may_have_made(info: &hb_glyph_info_t, mask: Option<u32>) -> bool {
+    match mask {
+        Some(mask) => info.mask & mask != 0,
+        None => true,
     }
 }

@@ -3,7 +3,7 @@
 use crate::fonts::bytes::bytes_of;
 use crate::fonts::lookups::{JOINER, NON_JOINER, OPTIONS, fill, list_of};
 use vukhaso::internals::glyph::hb_glyph_info_t;
-use vukhaso::internals::ot_layout::context::fitting_rule;
+use vukhaso::internals::ot_contexts::context::fitting_rule;
 use vukhaso::internals::ot_layout::{ApplyContext, Budget, Search, SkippingIterator};
 use vukhaso::internals::ot_lookups::LookupList;
 use vukhaso::memory::AllocError;

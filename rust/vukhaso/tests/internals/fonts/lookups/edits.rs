@@ -4,12 +4,11 @@ use crate::fonts::bytes::bytes_of;
 use crate::fonts::lookups::{JOINER, OPTIONS, fill, list_of};
 use vukhaso::internals::glyph::hb_glyph_info_t;
 use vukhaso::internals::glyph_digests::Digest;
-use vukhaso::internals::ot_layout::substitution::{Edit, edit_at};
-use vukhaso::internals::ot_layout::{
-    ApplyContext, Budget, Search, SkippingIterator, would_substitute,
-};
+use vukhaso::internals::ot_layout::{ApplyContext, Budget, Search, SkippingIterator};
 use vukhaso::internals::ot_lookups::LookupList;
 use vukhaso::internals::ot_lookups::subtable::{Form, positioning_form, substitution_form};
+use vukhaso::internals::ot_substitution::substitution::{Edit, edit_at};
+use vukhaso::internals::ot_substitution::would_substitute;
 use vukhaso::memory::AllocError;
 
 /// A table `GSUB` with one lookup: 10, 11 and 12 become the ligature 20, and 10 and 13 the ligature 21.

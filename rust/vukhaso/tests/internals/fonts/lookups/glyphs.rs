@@ -6,7 +6,7 @@ use vukhaso::internals::glyph::hb_glyph_info_t;
 use vukhaso::internals::glyph_digests::Digest;
 use vukhaso::internals::glyph_digests::first_glyphs::FirstGlyphs;
 use vukhaso::internals::glyph_digests::summary::{Summary, summary_of};
-use vukhaso::internals::ot_layout::glyph_table::Glyphs;
+use vukhaso::internals::ot_substitution::glyph_table::Glyphs;
 use vukhaso::internals::ot_layout::ligature_parts::{
     component_count, ligature_component, ligature_id, ligature_properties, mark_properties,
 };

@@ -3,12 +3,11 @@
 use crate::Fail;
 use crate::layout::plan::TABLE;
 use std::ops::Bound;
-use vukhaso::internals::common::{Direction, Tag};
+use vukhaso::internals::common::{Direction, Script, Tag, script};
+use vukhaso::internals::font_face::Face;
 use vukhaso::internals::ot_map::builder::ChosenTable;
-use vukhaso::internals::ot_map::{
-    FeatureFlags, FontLayout, KernLayout, LayoutPlan, Pause, PlanBuilder, ShapePlan, ShaperRules,
-    TextProperties,
-};
+use vukhaso::internals::ot_map::{FeatureFlags, LayoutPlan, Pause, PlanBuilder};
+use vukhaso::internals::ot_plan::{ShapePlan, text_plan};
 use vukhaso::internals::text::Feature;
 use vukhaso::memory::AllocError;
 
@@ -282,37 +281,32 @@ fn stages_part_lookups() -> Result<(), AllocError> {
     Ok(())
 }
 
-/// A font with the table, and neither `GPOS` nor `kern`.
-const FONT: FontLayout<'static> = FontLayout {
-    gsub: TABLE,
-    gpos: &[],
-    kern: KernLayout {
-        is_there: false,
-        is_cross_stream: false,
-        has_machine: false,
-    },
-    gsub_substitutions: &[],
-    gpos_substitutions: &[],
-};
+/// A font with this table `GSUB`, and no other.
+fn font_with(gsub: &[u8]) -> Vec<u8> {
+    let mut font = vec![0, 1, 0, 0, 0, 1, 0, 0, 0, 0, 0, 0];
+    font.extend_from_slice(b"GSUB\0\0\0\0\0\0\0\x1C");
+    font.extend_from_slice(&[0, 0, 0, gsub.len() as u8]);
+    font.extend_from_slice(gsub);
+    font
+}
 
-/// A script's shaper asks for its features between those that come first and those of every text, and
-/// says what becomes of marks.
+/// The plan for a text of a script with features, over a font with the table in which the script has the rules of `latn`.
+fn plan_for(script: Script, tag: &[u8; 4], features: &[Feature]) -> Result<ShapePlan, Fail> {
+    let mut table = TABLE.to_vec();
+    table[18..22].copy_from_slice(tag);
+    let font = font_with(&table);
+    let face = Face::parse_if_there(&font, 0)?.ok_or("no font")?;
+    let to_right = Direction::LeftToRight;
+    Ok(ShapePlan::new(&face, to_right, Some(script), None, features)?)
+}
+
+/// A script's shaper has rules for marks, as that of Hangul, which has features beside a user's.
 #[test]
 fn a_shaper_has_features_and_rules() -> Result<(), Fail> {
-    let text = TextProperties {
-        direction: Direction::LeftToRight,
-        scripts: &[Tag::from_bytes(b"latn")],
-        languages: &[],
-    };
-    let rules = ShaperRules {
-        gpos_script: None,
-        zero_marks: false,
-        fallback_position: false,
-    };
-    let mut builder = ShapePlan::begin(&FONT, &text)?;
-    builder.enable_feature(Tag::from_bytes(b"smcp"), FeatureFlags::NONE)?;
-    ShapePlan::add_common_features(&mut builder, text.direction, &[])?;
-    let plan = ShapePlan::complete(builder, &FONT, text.direction, rules)?;
+    let small_capitals = Tag::from_bytes(b"smcp");
+    let feature = Feature::new(small_capitals, 1, Bound::Unbounded, Bound::Unbounded);
+    let plan = plan_for(script::HANGUL, b"hang", &[feature])?;
+    let plan = &text_plan(&plan).shape;
     assert!(has_lookups(
         &plan.layout,
         &[(0, 0x8000_0000), (1, 0x8000_0000), (2, 0x10)]
@@ -327,14 +321,10 @@ fn a_shaper_has_features_and_rules() -> Result<(), Fail> {
 /// What the default shaper asks for, and what follows for a font without `GPOS` and `kern`.
 #[test]
 fn the_default_shaper_plans() -> Result<(), Fail> {
-    let text = TextProperties {
-        direction: Direction::LeftToRight,
-        scripts: &[Tag::from_bytes(b"latn")],
-        languages: &[],
-    };
     let small_capitals = Tag::from_bytes(b"smcp");
     let feature = Feature::new(small_capitals, 1, Bound::Included(1), Bound::Excluded(3));
-    let plan = ShapePlan::new(&FONT, &text, &[feature])?;
+    let plan = plan_for(script::LATIN, b"latn", &[feature])?;
+    let plan = &text_plan(&plan).shape;
     assert!(plan.has_frac);
     assert_eq!(plan.frac_mask, 0x10);
     assert_eq!(plan.kern_mask, 0x8000_0000);

@@ -1,0 +1,41 @@
+use Rattle.std.proofs.Common.{ℕ, Option, length, arith, rules}
+use Rattle.ot_contexts.specs.Match.{previous_place}
+use Rattle.ot_contexts.specs.Rule.{sequence_matcher}
+use Rattle.ot_layout.specs.declared.matcher.Matcher.{Matcher}
+use Rattle.ot_contexts.proofs.AroundLemmas.{steps_from-none, steps_from-more, steps_from-missing}
+use Rattle.ot_contexts.proofs.matching.match_backtrack.Goals as goal
+use Rattle.ot_layout.specs.ApplyContext.{context_iterator}
+
+pub returns-in-Err-clause-misses : goal.returns-in-Err-clause-misses
+returns-in-Err-clause-misses c some =
+    let ctx = c.args.ctx.now in
+    let step = λ (matcher : Option Matcher) (place : ℕ). previous_place (context_iterator ctx ctx.is_level) matcher ctx.out.now place in
+    let missing = rw c.context_iterator-iterator.ensures at (c.in-Err.ensures.missed some) in
+    steps_from-missing step (sequence_matcher c.args.part.now) (length ctx.out.now) c.args.part.now.count c.loop-index.index
+    c.loop-index.place c.loop-index.invariant.steps c.loop-index-test.true missing
+
+pub loop-index-preserved : goal.loop-index-preserved
+loop-index-preserved c =
+    let ctx = c.args.ctx.now in
+    let step = λ (matcher : Option Matcher) (place : ℕ). previous_place (context_iterator ctx ctx.is_level) matcher ctx.out.now place in
+    let found = rw c.context_iterator-iterator.ensures at c.in-Ok.ensures.found in
+    record {
+      within = omega (arith, c.in-Ok.ensures.before);
+      spent = search rules;
+      reach = search rules;
+      places = search rules;
+      steps = steps_from-more step (sequence_matcher c.args.part.now) (length ctx.out.now) c.loop-index.index c.loop-index.place
+          c.in-Ok.before c.loop-index.invariant.steps found;
+    }
+
+pub loop-index-init : goal.loop-index-init
+loop-index-init c =
+    let ctx = c.args.ctx.now in
+    let step = λ (matcher : Option Matcher) (place : ℕ). previous_place (context_iterator ctx ctx.is_level) matcher ctx.out.now place in
+    record {
+      within = omega arith;
+      spent = search rules;
+      reach = search rules;
+      places = search rules;
+      steps = steps_from-none step (sequence_matcher c.args.part.now) (length ctx.out.now);
+    }

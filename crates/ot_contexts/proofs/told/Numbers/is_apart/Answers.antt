@@ -1,0 +1,11 @@
+use Rattle.std.proofs.Common.{◌≡◌, ◌∙◌, sym, Some}
+use Rattle.ot_contexts.specs.Asked.{asked_at}
+use Rattle.ot_contexts.proofs.AskedLemmas.{asks}
+use Rattle.ot_contexts.proofs.told.Numbers.is_apart.Goals as goal
+
+pub returns-in-Some : goal.returns-in-Some
+returns-in-Some c = λ other neighbours m p apart rule.
+    let asked : asked_at c.args.is_chained c.args.table.now c.args.number ≡ Some c.in-Some.asked =
+    sym c.asked_at.ensures ∙ c.in-Some.is in
+    apart p c.in-Some.asked (asks c.args.is_chained m c.args.table.now c.args.number c.in-Some.asked p asked rule)
+    (sym c.is_other.ensures ∙ other)

@@ -1,0 +1,7 @@
+pub mod Asked
+pub mod Context
+pub mod Match
+pub mod Neighbours
+pub mod Pattern
+pub mod Rule
+pub mod RuleSet

@@ -1,0 +1,203 @@
+//! Contexts: rules of glyphs at the cursor, before them and after them, as the kinds 5 and 6 of `GSUB` have them, and the
+//! kinds 7 and 8 of `GPOS` (OpenType specification, "OpenType Layout Common Table Formats", "Sequence Context").
+
+ghost use Rattle.std.specs.Prelude.{◌≡◌, ◌<◌, ◌≤◌, length, IfSome, IsTrue, Some, is_some, option_copied};
+ghost use Rattle.ot_layout.specs.Budget.{IsNotMore};
+ghost use Rattle.ot_contexts.specs.Context.{IsFitWithin, IsMissed, class_meanings, context_rule, covered_rule, next_walk, record_at};
+ghost use Rattle.ot_contexts.specs.Context.{numbered_set, same_match_function};
+ghost use Rattle.ot_lookups.specs.Forms.{is_chained_type};
+ghost use Rattle.ot_lookups.specs.NextAsked.{IsNextOf};
+ghost use Rattle.ot_contexts.specs.Pattern.{IsFitBy, rule_fits};
+ghost use Rattle.ot_layout.specs.SkippingIterator.{skip_of};
+ghost use Rattle.ot_layout.specs.declared.skipping_iterator.Skip.TheVariants.{No};
+
+use crate::rule::{MatchFunction, MatchFunctions, coverage_rule};
+use crate::rule_set::{RuleSet, counts_around, first_fit, fit};
+use font_tables::bytes::{table_at_16, u16_at};
+use ot_layout::matcher::class_of;
+use ot_layout::search::{ApplyContext, Search};
+use ot_layout::skipping_iterator::Skip;
+use ot_lookups::lookup_list::LookupList;
+use ot_lookups::subtable::{NextAsked, Subtable};
+use rb_glyph::hb_glyph_info_t;
+
+/// A rule that fits at the cursor. The places of its glyphs are in `Search::places`.
+#[derive(Clone, Copy)]
+pub struct Fit<'a> {
+    /// How many glyphs of the input it takes, with those that are passed over.
+    pub end: usize,
+    /// The first glyph before the cursor that it looked at, as its place in `out`.
+    pub from: usize,
+    /// How far it looked into the input.
+    pub to: usize,
+    /// How far other rules would have looked into the input.
+    pub beyond: usize,
+    /// How many lookups are applied.
+    pub record_count: u16,
+    /// The records of the lookups that are applied, of four bytes each.
+    pub records: &'a [u8],
+}
+
+/// A lookup that a rule applies.
+#[derive(Clone, Copy)]
+pub struct SequenceLookupRecord {
+    /// The number of the glyph at which it is applied, of those of the input.
+    pub sequence_index: usize,
+    /// The index of the lookup.
+    pub lookup: u16,
+}
+
+impl<'a> Fit<'a> {
+    /// The record of this number; `None` where the table is cut short before it.
+    pub fn record(&self, index: usize) -> Option<SequenceLookupRecord>
+        ensures { index < 65536 → result ≡ record_at self.now.records.now index }
+    {
+        let at = index.saturating_mul(4);
+        Some(SequenceLookupRecord {
+            sequence_index: usize::from(u16_at(self.records, at)?),
+            lookup: u16_at(self.records, at.saturating_add(2))?,
+        })
+    }
+}
+
+/// The rule of a subtable that is taken at the cursor: the first of its set that fits. The subtable is one of the list, and a context,
+/// chained or not; its coverage has the glyph at the cursor, at this index.
+#[tactic(auto, using(crate::proofs::ContextLemmas::formats))]
+pub fn fitting_rule<'a>(
+    list: &'a LookupList<'a>,
+    subtable: &Subtable<'a>,
+    index: u32,
+    is_chained: bool,
+    ctx: &ApplyContext,
+    search: &mut Search,
+) -> Option<Fit<'a>>
+    requires { 0 < length ctx.now.input.now }
+    ensures spent { IsNotMore search.old.budget search.new.budget }
+    ensures fits { IfSome result (IsFitWithin (length ctx.now.out.now) (length ctx.now.input.now)) }
+    ensures rule { IfSome result
+        (IsFitBy ctx.now (context_rule list.now.coverages.items subtable.now index is_chained ctx.now)
+        search.new.places.items) }
+    ensures exact { is_chained ≡ is_chained_type subtable.now.lookup_type
+        → IsNextOf list.now.coverages.items subtable.now → 0 < search.new.budget.steps
+        → is_some result ≡ is_some (context_rule list.now.coverages.items subtable.now index is_chained ctx.now) }
+{
+    let table = subtable.table;
+    let (set, match_functions) = match subtable.format {
+        1 => (
+            set_at(table, 4, index)?,
+            same_match_function(MatchFunction::Glyphs),
+        ),
+        2 => {
+            let class = class_of(&subtable.classes, ctx.input[0].glyph_id);
+            let set = set_at(table, if is_chained { 10 } else { 6 }, u32::from(class))?;
+            (set, class_meanings(subtable))
+        }
+        3 => return covered_fit(list, subtable, is_chained, ctx, search),
+        _ => return None,
+    };
+    let rules = RuleSet {
+        table: set,
+        match_functions,
+        is_chained,
+    };
+    first_fit(&rules, ctx, search)
+}
+
+/// The rule of a context by coverages, if it fits at the cursor. Mostly the next glyph shows at once that it does not.
+#[inline]
+fn covered_fit<'a>(
+    list: &'a LookupList<'a>,
+    subtable: &Subtable<'a>,
+    is_chained: bool,
+    ctx: &ApplyContext,
+    search: &mut Search,
+) -> Option<Fit<'a>>
+    requires { 0 < length ctx.now.input.now }
+    ensures spent { IsNotMore search.old.budget search.new.budget }
+    ensures fits { IfSome result (IsFitWithin (length ctx.now.out.now) (length ctx.now.input.now)) }
+    ensures rule { IfSome result (IsFitBy ctx.now (covered_rule list.now.coverages.items subtable.now is_chained)
+        search.new.places.items) }
+    ensures exact { is_chained ≡ is_chained_type subtable.now.lookup_type → IsNextOf list.now.coverages.items subtable.now
+        → 0 < search.new.budget.steps
+        → is_some result ≡ rule_fits ctx.now (covered_rule list.now.coverages.items subtable.now is_chained) }
+{
+    if let Some(next) = &subtable.next
+        && let Some(to) = missed_next(next, ctx)
+    {
+        search.budget.pay(1);
+        search.reach.extend(ctx.out.len(), to);
+        return None;
+    }
+    let coverages = list.coverages_from(subtable, 0);
+    fit(
+        &coverage_rule(subtable.table, coverages, is_chained)?,
+        ctx,
+        search,
+    )
+}
+
+/// Whether the glyph after the one at the cursor counts for a context by coverages, whatever is asked for.
+#[tactic(auto, using(crate::proofs::ContextLemmas::counting))]
+fn counts_next(next: &NextAsked, ctx: &ApplyContext, glyph: &hb_glyph_info_t) -> bool
+    ensures { IsTrue result → skip_of (next_walk next.now ctx.now) glyph.now ≡ No }
+{
+    if next.is_input {
+        ctx.iterator.skip(glyph) == Skip::No
+    } else {
+        counts_around(ctx, glyph)
+    }
+}
+
+/// How far glyphs were looked at, where the glyph after the one at the cursor counts and is not what is asked for, or where there is none.
+#[tactic(auto, using(crate::proofs::ContextLemmas::missed))]
+fn missed_next(next: &NextAsked, ctx: &ApplyContext) -> Option<usize>
+    requires { 0 < length ctx.now.input.now }
+    ensures { IfSome result (λ to. IsMissed next.now ctx.now) }
+{
+    if ctx.input.len() == 1 {
+        return Some(1);
+    }
+    let glyph = &ctx.input[1];
+    if next.digest.may_have(glyph.glyph_id) {
+        return None;
+    }
+    if counts_next(next, ctx, glyph) {
+        Some(2)
+    } else {
+        None
+    }
+}
+
+/// The set of this number of a list of sets, their count standing at a place.
+pub fn set_at(table: &[u8], at: usize, number: u32) -> Option<&[u8]>
+    requires { at < 65536 }
+    ensures { option_copied result ≡ numbered_set table.now at number }
+{
+    if number < u32::from(u16_at(table, at)?) {
+        table_at_16(table, at.saturating_add(2 + 2 * number as usize))
+    } else {
+        None
+    }
+}
+
+/// The same meaning in all three parts.
+pub fn same_match_function<'a>(match_function: MatchFunction<'a>) -> MatchFunctions<'a>
+    ensures { result ≡ same_match_function match_function.entry }
+{
+    MatchFunctions {
+        backtrack: match_function,
+        input: match_function,
+        lookahead: match_function,
+    }
+}
+
+/// The classes of the three parts.
+pub fn class_meanings<'a>(subtable: &Subtable<'a>) -> MatchFunctions<'a>
+    ensures { result ≡ class_meanings subtable.now }
+{
+    MatchFunctions {
+        backtrack: MatchFunction::Classes(subtable.backtrack_classes),
+        input: MatchFunction::Classes(subtable.classes),
+        lookahead: MatchFunction::Classes(subtable.lookahead_classes),
+    }
+}

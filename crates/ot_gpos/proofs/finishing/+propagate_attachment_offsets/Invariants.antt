@@ -1,4 +1,0 @@
-use Rattle.ot_gpos.proofs.finishing.+propagate_attachment_offsets.Given as goal
-
-abbrev pub decreases-propagate_attachment_offsets : goal.decreases-propagate_attachment_offsets
-decreases-propagate_attachment_offsets l = l.levels

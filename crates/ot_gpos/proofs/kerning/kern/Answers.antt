@@ -1,7 +1,0 @@
-use Rattle.ot_gpos.proofs.FlagLemmas.{keeps_by}
-use Rattle.ot_gpos.proofs.kerning.kern.Goals as goal
-
-pub returns-clause-keeps : goal.returns-clause-keeps
-returns-clause-keeps c =
-    keeps_by c.args.buffer.now c.kern_by_all.new.buffer (c.out_len.ensures.closed c.requires.closed)
-    (c.out_len-2.ensures.closed c.kern_by_all.ensures.closed) c.kern_by_all.ensures.rest

@@ -1,0 +1,166 @@
+//! Which glyphs of a line the table `kern` has as pairs.
+
+ghost use Rattle.std.specs.Prelude.{◌≡◌, ◌<◌, IfSome, length};
+ghost use Rattle.ot_kern.specs.Kerning as kerning;
+ghost use Rattle.ot_kern.specs.Kerning.{PassesMarks, machine_of, pair_table};
+
+use font_tables::scale::Scale;
+use ot_gpos_tables::kern_table::KernSubtable;
+use ot_layout::matcher::Matcher;
+use ot_layout::skipping_iterator::{Found, SkippingIterator};
+use rb_common::Direction;
+use rb_glyph::hb_glyph_info_t;
+
+/// A subtable as it is applied to a line.
+#[derive(Clone, Copy)]
+pub(crate) struct KernMachine<'a> {
+    /// The subtable.
+    pub subtable: KernSubtable<'a>,
+    /// The iterator over the glyphs that are not passed over.
+    pub iterator: SkippingIterator<'a>,
+    /// The size of the font.
+    pub scale: Scale,
+    /// The direction of the line.
+    pub direction: Direction,
+}
+
+/// A pair of glyphs in the order in which a line shows them.
+#[derive(Clone, Copy)]
+pub(crate) struct KernPair {
+    /// The place of the left or upper glyph.
+    pub left: usize,
+    /// The place of the right or lower one.
+    pub right: usize,
+    /// How far the right glyph is moved from the left one.
+    pub value: i32,
+    /// Whether it is moved across the line.
+    pub is_cross_stream: bool,
+}
+
+/// The place of a number in the order of the line, and the number of a place: lines that run backward begin at the end.
+pub(crate) fn in_line(direction: Direction, count: usize, number: usize) -> usize
+    requires { number < count }
+    ensures is { result ≡ kerning.in_line direction count number }
+    ensures within { result < count }
+{
+    if direction.is_forward() {
+        number
+    } else {
+        count - 1 - number
+    }
+}
+
+/// The pair of the glyph at a place and the next one in the line that is not passed over; `None` where there is none, or the glyph has
+/// not the bits that are asked for.
+#[inline]
+#[tactic(auto, unfolding(crate::specs::Kerning::pair_of))]
+pub(crate) fn pair_of(
+    glyphs: &[hb_glyph_info_t],
+    machine: &KernMachine,
+    left: usize,
+) -> Option<KernPair>
+    requires passes { PassesMarks machine.now.iterator }
+    requires there { left < length glyphs.now }
+    ensures is { result ≡ kerning.pair_of (machine_of machine.now) glyphs.now left }
+    ensures left { IfSome result (λ pair. pair.left < length glyphs.now) }
+    ensures right { IfSome result (λ pair. pair.right < length glyphs.now) }
+{
+    if glyphs[left].mask & machine.iterator.mask == 0 {
+        return None;
+    }
+    let right = neighbour(glyphs, machine, left)?;
+    Some(KernPair {
+        left,
+        right,
+        value: i32::from(value_of(&machine.subtable, &glyphs[left], &glyphs[right])),
+        is_cross_stream: machine.subtable.coverage.is_cross_stream,
+    })
+}
+
+/// The next glyph in the line.
+fn neighbour(glyphs: &[hb_glyph_info_t], machine: &KernMachine, left: usize) -> Option<usize>
+    requires passes { PassesMarks machine.now.iterator }
+    requires there { left < length glyphs.now }
+    ensures is { result ≡ kerning.neighbour (machine_of machine.now) glyphs.now left }
+    ensures within { IfSome result (λ right. right < length glyphs.now) }
+{
+    if machine.direction.is_forward() {
+        next_forward(glyphs, machine, left)
+    } else {
+        next_backward(glyphs, machine, left)
+    }
+}
+
+/// The next glyph behind a place.
+#[tactic(auto, using(crate::proofs::KerningLemmas::place_of_next))]
+fn next_forward(glyphs: &[hb_glyph_info_t], machine: &KernMachine, left: usize) -> Option<usize>
+    requires passes { PassesMarks machine.now.iterator }
+    requires there { left < length glyphs.now }
+    ensures is { result ≡ kerning.next_forward (machine_of machine.now) glyphs.now left }
+    ensures within { IfSome result (λ right. right < length glyphs.now) }
+{
+    match machine.iterator.next(&Matcher::Shown, glyphs, left) {
+        Found::At(right) => Some(right),
+        Found::Other(_) => None,
+        Found::End => None,
+    }
+}
+
+/// The last glyph before a place.
+#[tactic(auto, using(crate::proofs::KerningLemmas::place_of_previous))]
+fn next_backward(glyphs: &[hb_glyph_info_t], machine: &KernMachine, left: usize) -> Option<usize>
+    requires passes { PassesMarks machine.now.iterator }
+    requires there { left < length glyphs.now }
+    ensures is { result ≡ kerning.next_backward (machine_of machine.now) glyphs.now left }
+    ensures within { IfSome result (λ right. right < length glyphs.now) }
+{
+    match machine.iterator.previous(&Matcher::Shown, glyphs, left) {
+        Found::At(right) => Some(right),
+        Found::Other(_) => None,
+        Found::End => None,
+    }
+}
+
+/// Whether one of the glyphs between those of a pair would be kerned with its right glyph, if the line began there.
+#[inline]
+#[tactic(auto, using(ot_attachments::proofs::PlacesLemmas::some_place_here, ot_attachments::proofs::PlacesLemmas::some_place_later, ot_attachments::proofs::PlacesLemmas::some_place_none))]
+pub(crate) fn passes_over_pair(
+    glyphs: &[hb_glyph_info_t],
+    machine: &KernMachine,
+    pair: &KernPair,
+) -> bool
+    requires left { pair.now.left < length glyphs.now }
+    requires right { pair.now.right < length glyphs.now }
+    ensures { result ≡ kerning.passes_over_pair (machine_of machine.now) glyphs.now pair.now }
+{
+    let to = pair.left.max(pair.right);
+    for place in pair.left.min(pair.right).saturating_add(1)..to {
+        if would_kern(glyphs, machine, place, pair.right) {
+            return true;
+        }
+    }
+    false
+}
+
+/// Whether the glyphs at two places would be a pair with a value.
+fn would_kern(glyphs: &[hb_glyph_info_t], machine: &KernMachine, left: usize, right: usize) -> bool
+    requires left { left < length glyphs.now }
+    requires right { right < length glyphs.now }
+    ensures { result ≡ kerning.would_kern (machine_of machine.now) glyphs.now left right }
+{
+    glyphs[left].mask & machine.iterator.mask != 0
+        && value_of(&machine.subtable, &glyphs[left], &glyphs[right]) != 0
+}
+
+/// The value of two glyphs, in font units.
+#[tactic(auto, using(crate::proofs::KerningLemmas::kerning_is))]
+fn value_of(subtable: &KernSubtable, left: &hb_glyph_info_t, right: &hb_glyph_info_t) -> i16
+    ensures { result ≡ kerning.value_of (pair_table subtable.now) left.now right.now }
+{
+    let (left, right) = (left.glyph_id, right.glyph_id);
+    if left < 65536 && right < 65536 {
+        subtable.kerning(left as u16, right as u16)
+    } else {
+        0
+    }
+}

@@ -1,9 +1,0 @@
-use Rattle.std.proofs.Common.{◌≡◌, None}
-use Rattle.ot_layout.specs.RuleSet.{first_rule}
-use Rattle.ot_layout.proofs.rule_set.first_unparted.Given as goal
-
--- none of the rules so far is taken
-abbrev pub invariant-loop-at : goal.invariant-loop-at
-invariant-loop-at l =
-    first_rule l._ctx l.rules.is_chained l.rules.match_functions l.rules.table.now l.index ≡ None
-    → first_rule l._ctx l.rules.is_chained l.rules.match_functions l.rules.table.now l.at ≡ None

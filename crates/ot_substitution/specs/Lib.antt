@@ -1,0 +1,4 @@
+pub mod FirstEdit
+pub mod GlyphTable
+pub mod Reverse
+pub mod Substitution

@@ -1,7 +1,0 @@
-use Rattle.shaping_buffer.proofs.ClosedKeepsLemmas.{keeps_with_input}
-use Rattle.script_universal.proofs.universal.recorded.record_rephs.Goals as goal
-
-pub returns-clause-keeps : goal.returns-clause-keeps
-returns-clause-keeps c =
-    keeps_with_input c.args.buffer.now c.record_all_rephs.new.infos c.info_slice_mut.result.now c.info_slice_mut.ensures.value
-    c.record_all_rephs.ensures
