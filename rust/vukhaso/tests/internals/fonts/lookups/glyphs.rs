@@ -6,7 +6,6 @@ use vukhaso::internals::glyph::hb_glyph_info_t;
 use vukhaso::internals::glyph_digests::Digest;
 use vukhaso::internals::glyph_digests::first_glyphs::FirstGlyphs;
 use vukhaso::internals::glyph_digests::summary::{Summary, summary_of};
-use vukhaso::internals::ot_substitution::glyph_table::Glyphs;
 use vukhaso::internals::ot_layout::ligature_parts::{
     component_count, ligature_component, ligature_id, ligature_properties, mark_properties,
 };
@@ -14,6 +13,7 @@ use vukhaso::internals::ot_layout::{Budget, LookupOptions, Reach, SkippingIterat
 use vukhaso::internals::ot_lookups::LookupProps;
 use vukhaso::internals::ot_lookups::lookup_props::covered_index;
 use vukhaso::internals::ot_lookups::subtable::{behind_list, table_or_empty};
+use vukhaso::internals::ot_substitution::glyph_table::Glyphs;
 use vukhaso::memory::AllocError;
 
 /// A glyph with these glyph properties and ligature properties.

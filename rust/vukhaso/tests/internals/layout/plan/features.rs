@@ -297,7 +297,13 @@ fn plan_for(script: Script, tag: &[u8; 4], features: &[Feature]) -> Result<Shape
     let font = font_with(&table);
     let face = Face::parse_if_there(&font, 0)?.ok_or("no font")?;
     let to_right = Direction::LeftToRight;
-    Ok(ShapePlan::new(&face, to_right, Some(script), None, features)?)
+    Ok(ShapePlan::new(
+        &face,
+        to_right,
+        Some(script),
+        None,
+        features,
+    )?)
 }
 
 /// A script's shaper has rules for marks, as that of Hangul, which has features beside a user's.
