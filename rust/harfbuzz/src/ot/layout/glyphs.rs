@@ -7,7 +7,8 @@ use crate::sfnt::{at_16, at_32, i16_at, tail, u16_at};
 use crate::types::{hb_bool_t, hb_codepoint_t, put, put_part, slice};
 use std::ffi::c_uint;
 use vukhaso::internals::font_tables::coverage::Coverage;
-use vukhaso::internals::ot_layout::{Budget, would_substitute};
+use vukhaso::internals::ot_layout::Budget;
+use vukhaso::internals::ot_substitution::would_substitute;
 
 const SINGLE: u16 = 1;
 const ALTERNATE: u16 = 3;
