@@ -183,12 +183,24 @@ def proved_in(lines):
     return [found[1] for line in lines if (found := re.match(r"fn (\S+): (?:no holes|depends on a hole)", line))]
 
 
+def tried_copies(place, copies):
+    """The lines of a check of these copies, and of each the lines on which it stands."""
+    texts, spans = edit_copies.planted(copies)
+    return tried(place, [it.edit for it in copies], texts, [it.printed() for it in copies], edit_contracts.WORDS), spans
+
+
 def open_copies(place, copies):
     """The functions whose right body is not proved as a copy."""
-    texts, _ = edit_copies.planted(copies)
-    lines = tried(place, [it.edit for it in copies], texts, [it.printed() for it in copies], edit_contracts.WORDS)
-    proved = proved_in(lines)
+    proved = proved_in(tried_copies(place, copies)[0])
     return [it for it in copies if not any(is_named(path, it.printed()) for path in proved)]
+
+
+def chunks_of(place, edits, is_right=False):
+    """The copies that these edits are, in lists for one check each, and the edits that are none."""
+    copies, others = edit_copies.copies_of(edits, is_right)
+    names = {it.edit.crate.name for it in copies}
+    of_groups = [[it for name in group for it in copies if it.edit.crate.name == name] for group in place.groups(names)]
+    return [chunk for group in of_groups for chunk in edit_copies.chunks_of(group)], others
 
 
 def users_of_table(edit):
@@ -207,11 +219,13 @@ def printed(functions, crate):
 
 def tried(place, edits, texts, names, words=()):
     """The lines of a check with these texts: of the functions with these names, or of the whole crate where there are none."""
-    crate = edits[0].crate
-    own = {path.relative_to(crate): text for path, text in texts.items()}
+    own = {edit.crate.name: {} for edit in edits}
+    for path, text in texts.items():
+        crate = next(it.crate for it in edits if path.is_relative_to(it.crate))
+        own[crate.name][path.relative_to(crate)] = text
     only = [word for name in names for word in ("--only", name)]
     begun = time.monotonic()
-    lines = place.tried(crate.name, own, ["--jobs", "1", *words, *only])[1]
+    lines = place.tried(own, ["--jobs", "1", "--progress", *words, *only])[1]
     with LOG.open("a") as log:
         head = f"== {' '.join(edit.label for edit in edits)}, in {time.monotonic() - begun:.0f} seconds"
         log.write("".join(f"{line}\n" for line in (head, *lines)))
@@ -246,14 +260,23 @@ class Kept:
         self.file.with_suffix(".new").replace(self.file)
 
 
+@dataclass
+class Task:
+    """A try that waits for its turn: the crates that it is of, the memory that it takes, and the call."""
+
+    crates: set
+    needs: int
+    call: object
+
+
 class AsProved(Waiting):
-    """The batches of each crate, once its name is read: another command says which crates it has proved, a line each. Meanwhile what is tried
-    here gives way to it."""
+    """The tasks, each once the names of all of its crates are read: another command says which crates it has proved, a line each. Meanwhile what is
+    tried here gives way to it."""
 
     GIVES_WAY = ["nice", "-n", "19"]
 
-    def __init__(self, place, batches, names):
-        self.place, self.batches, self.names, self.read, self.is_open = place, batches, names, queue.SimpleQueue(), True
+    def __init__(self, place, tasks, names):
+        self.place, self.tasks, self.names, self.read, self.proved, self.is_open = place, tasks, names, queue.SimpleQueue(), set(), True
         place.before = self.GIVES_WAY
         threading.Thread(target=self.listen, daemon=True).start()
 
@@ -263,13 +286,12 @@ class AsProved(Waiting):
         self.place.before, self.is_open = [], False
 
     def taken(self):
-        ready = []
         while not self.read.empty():
-            name = self.read.get()
-            if name in self.batches:
-                self.place.prove([name])
-                ready += self.batches.pop(name)
-        return ready
+            self.proved.add(self.read.get())
+        ready = [it for it in self.tasks if it.crates <= self.proved]
+        self.tasks = [it for it in self.tasks if it not in ready]
+        self.place.prove({name for it in ready for name in it.crates})
+        return [(it.needs, it.call) for it in ready]
 
 
 class Tries:
@@ -301,8 +323,7 @@ class Tries:
         if time.monotonic() > self.ends:
             self.left += len(copies)
             return []
-        texts, spans = edit_copies.planted(copies)
-        lines = tried(self.place, [it.edit for it in copies], texts, [it.printed() for it in copies], edit_contracts.WORDS)
+        lines, spans = tried_copies(self.place, copies)
         return [(it.edit, *verdict_of_copy(it, spans[it.name], lines)) for it in copies]
 
     def try_alone(self, edit):
@@ -312,37 +333,41 @@ class Tries:
         said = verdict_alone(edit, tried(self.place, [edit], texts, functions)) if functions else (False, "")
         return [(edit, *(said if said[0] or changed else verdict_alone(edit, tried(self.place, [edit], texts, []))))]
 
-    def batches_of(self, edits):
-        """The batches of each crate, each with the memory that it takes."""
-        found = {}
-        for crate in sorted({edit.crate for edit in edits}):
-            needs = self.place.needs(crate.name)
-            chunks, others = edit_copies.chunks_of([edit for edit in edits if edit.crate == crate])
-            found[crate.name] = [(needs, lambda chunk=chunk: self.try_copies(chunk)) for chunk in chunks]
-            found[crate.name] += [(needs, lambda batch=batch: self.try_batch(batch)) for batch in batches_of(crate, others)]
+    def tasks_of(self, edits):
+        """The tasks that try these edits."""
+        chunks, others = chunks_of(self.place, edits)
+        found = [self.task([it.edit for it in chunk], lambda chunk=chunk: self.try_copies(chunk)) for chunk in chunks]
+        for crate in sorted({edit.crate for edit in others}):
+            batches = batches_of(crate, [edit for edit in others if edit.crate == crate])
+            found += [self.task(batch.edits, lambda batch=batch: self.try_batch(batch)) for batch in batches]
         return found
 
+    def task(self, edits, call):
+        names = {edit.crate.name for edit in edits}
+        return Task(names, self.place.needs(names), call)
+
     def run(self, edits, names=None):
-        """Tries these edits: all at once, or those of a crate from when its name is read."""
+        """Tries these edits: all at once, or those of crates from when their names are read."""
         self.passed = sum(self.kept.key(edit) in self.kept.said for edit in edits)
         if self.passed:
             print(f"{self.passed} of {len(edits)} were refused in an earlier run, and nothing that they stand on has changed", flush=True)
         edits = [edit for edit in edits if self.kept.key(edit) not in self.kept.said]
-        open_edits, batches = [], self.batches_of(edits)
-        count = sum(map(len, batches.values()))
-        print(f"{len(edits)} wrong bodies of {len(batches)} crates, in {count} batches", flush=True)
+        open_edits, tasks = [], self.tasks_of(edits)
+        print(f"{len(edits)} wrong bodies of {len({edit.crate for edit in edits})} crates, in {len(tasks)} batches", flush=True)
         if names is None:
-            self.tell([it for tasks in batches.values() for it in tasks], count, open_edits)
+            self.tell([(it.needs, it.call) for it in tasks], len(tasks), open_edits)
         else:
-            self.tell([], count, open_edits, AsProved(self.place, batches, names))
+            waiting = AsProved(self.place, tasks, names)
+            self.tell([], len(tasks), open_edits, waiting)
+            left = {name for it in waiting.tasks for name in it.crates}
             for edit in edits:
-                if edit.crate.name in batches:
+                if edit.crate.name in left:
                     self.failed += 1
                     print(f"{edit.label}: NOT TRIED: its crate is not proved", flush=True)
         if open_edits:
             print(f"alone: {len(open_edits)} of which their batch does not tell", flush=True)
-            alone = [(self.place.needs(edit.crate.name), lambda edit=edit: self.try_alone(edit)) for edit in open_edits]
-            self.tell(alone, count + len(alone), [])
+            alone = [(self.place.needs([edit.crate.name]), lambda edit=edit: self.try_alone(edit)) for edit in open_edits]
+            self.tell(alone, len(tasks) + len(alone), [])
 
     def tell(self, tasks, count, open_edits, waiting=Waiting()):
         """Runs the tasks, the largest first, and prints what each edit came to as they end."""
@@ -371,10 +396,9 @@ def prove_copies(edits, places):
         if open_crates:
             print(said[-3000:], f"not proved as they stand: {' '.join(open_crates)}", sep="\n")
             return len(edits)
-        tasks = []
-        for crate in sorted({edit.crate for edit in edits}):
-            chunks, _ = edit_copies.chunks_of([edit for edit in edits if edit.crate == crate], is_right=True)
-            tasks += [(place.needs(crate.name), lambda chunk=chunk: (chunk, open_copies(place, chunk))) for chunk in chunks]
+        chunks, _ = chunks_of(place, edits, is_right=True)
+        crates_of = lambda chunk: {it.edit.crate.name for it in chunk}
+        tasks = [(place.needs(crates_of(chunk)), lambda chunk=chunk: (chunk, open_copies(place, chunk))) for chunk in chunks]
         for chunk, left in side_by_side(tasks):
             passed += len(chunk) - len(left)
             failed += left

@@ -9,10 +9,10 @@ import re
 from dataclasses import dataclass
 
 from edit_contracts import answers_of, by_contract, is_of_a_cycle
-from wrong_bodies import Function, changed_functions, is_of_a_goal
+from wrong_bodies import Function, changed_functions, is_of_a_goal, place_in
 
 # How many copies one check has at most.
-COPIES = 12
+COPIES = 24
 
 
 @dataclass
@@ -55,13 +55,26 @@ def copy_of(edit, number, is_right=False):
     return Copy(edit, it, name, re.sub(rf"\bfn {it.name}\b", f"fn {name}", whole, count=1).split("\n"))
 
 
-def chunks_of(edits, is_right=False):
-    """These edits of one crate as copies, in as few lists of about the same length as one check may have, and those that are none. Of
-    right bodies each function has one copy."""
+def copies_of(edits, is_right=False):
+    """These edits as copies, each with a number of its own, and those that are none. Of right bodies each function has one copy."""
     made = [(edit, copy_of(edit, number, is_right)) for number, edit in enumerate(edits, 1)]
     copies = {copy.function.key if is_right else number: copy for number, (_, copy) in enumerate(made) if copy}
+    return [*copies.values()], [edit for edit, copy in made if copy is None]
+
+
+def chunks_of(copies):
+    """These copies in as few lists of about the same length as one check may have, those of a crate beside each other."""
     count = -(-len(copies) // COPIES)
-    return [[*copies.values()][at::count] for at in range(count)], [edit for edit, copy in made if copy is None]
+    size = -(-len(copies) // max(count, 1))
+    return [copies[at * size : (at + 1) * size] for at in range(count)]
+
+
+def by_crate(copies):
+    """Lists of the copies of each crate, by the crates."""
+    found = {}
+    for copy in copies:
+        found.setdefault(copy.edit.crate, []).append(copy)
+    return found
 
 
 def copied_answers(copy):
@@ -75,9 +88,18 @@ def copied_answers(copy):
 
 
 def planted(copies):
-    """The texts with these copies of one crate, where all other functions go by their contracts, by their paths, and of each copy the lines on
-    which it stands, counted from 1."""
-    texts, spans, moved = by_contract(copies[0].edit.crate, {}, set()), {}, {}
+    """The texts with these copies, where all other functions of their crates go by their contracts, by their paths, and of each copy the lines
+    on which it stands, counted from 1."""
+    texts, spans = {}, {}
+    for crate, own in by_crate(copies).items():
+        more, lines = planted_in(crate, own)
+        texts, spans = texts | more, spans | lines
+    return texts, spans
+
+
+def planted_in(crate, copies):
+    """The same of the copies of one crate."""
+    texts, spans, moved = by_contract(crate, {}, set()), {}, {}
     for copy in sorted(copies, key=lambda it: (it.function.file, it.function.last)):
         path = copy.function.file
         lines = texts[path].split("\n")
@@ -94,8 +116,7 @@ def is_refused(copy, span, lines):
     path, first, last = span
     folder = "/" + copy.printed().removeprefix(f"{copy.edit.crate.name}::").replace("::", "/")
     for line in filter(is_of_a_goal, lines):
-        said = re.match(r"(?:note: )?(?:\./)?((?:src|proofs)/\S+?):(\d+):\d+: ", line)
-        place = said and copy.edit.crate / said[1]
-        if said and (place == path and first <= int(said[2]) <= last or f"/{place.parent}".endswith(folder)):
+        place = place_in(line, copy.edit.crate)
+        if place and (place[0] == path and first <= place[1] <= last or f"/{place[0].parent}".endswith(folder)):
             return True
     return False

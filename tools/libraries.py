@@ -10,7 +10,10 @@ import tempfile
 from functools import cached_property
 from pathlib import Path
 
-from scratch import PARTS, ROOT, copy_if_there, likely_need, libraries, run, with_below
+from scratch import LEAST_NEED, PARTS, ROOT, copy_if_there, likely_need, libraries, run, with_below
+
+# How many crates one check reads as sources at most.
+CRATES = 4
 
 
 class Libraries:
@@ -53,35 +56,59 @@ class Libraries:
                 open_crates += [] if self.is_ready(name) else [name]
         return open_crates, said
 
-    def needs(self, name):
-        return likely_need(ROOT / "crates" / name, [ROOT / "crates" / it for it in self.below[name]])
+    def needs(self, names):
+        """The memory that a check of these crates takes: of the libraries below it loads only what they state."""
+        own = [likely_need(ROOT / "crates" / name, []) for name in names]
+        return sum(own) - (len(own) - 1) * LEAST_NEED
 
-    def words(self, name):
-        """What a check of the crate is called with: its libraries, and the logic."""
+    def groups(self, names):
+        """These crates in lists which one check may read: what stands between two of a list stands in it too."""
+        found = []
+        for name in (it for it in self.crates if it in names):
+            last = {*found[-1]} if found else set()
+            between = with_below([name], self.crates) - {name} - last
+            if last and len(last) < CRATES and not any(with_below([it], self.crates) & last for it in between):
+                found[-1].append(name)
+            else:
+                found.append([name])
+        return found
+
+    def words(self, names):
+        """What a check of these crates is called with: their libraries, and the logic."""
         own = lambda it: ROOT / "crates" / it / f"out/rlib/{it}.rlib"
-        named = ["std", *(it for it in self.crates[name][1] if it not in self.crates)]
-        words = [word for it in named for word in ("--extern", f"{it}={self.kit}/rlibs/{it}.rlib")]
-        words += [word for it in self.crates[name][1] if it in self.crates for word in ("--extern", f"{it}={own(it)}")]
+        named = sorted({"std", *(it for name in names for it in self.crates[name][1])} - {*names})
+        below = sorted({it for name in names for it in self.below[name]} - {*names})
+        words = [word for it in named for word in ("--extern", f"{it}={own(it) if it in self.crates else f'{self.kit}/rlibs/{it}.rlib'}")]
         words += ["-L", f"dependency={self.kit}/rlibs"]
-        words += [word for it in self.below[name] for word in ("-L", f"dependency={own(it).parent}")]
+        words += [word for it in below for word in ("-L", f"dependency={own(it).parent}")]
         return [*words, "--antt-project", f"{self.kit}/rattle/logic/antt-project.json", "--logic-built", f"{self.kit}/logic_built"]
 
-    def tried(self, name, texts, words):
-        """Whether these functions of a crate, or all, are proved with these texts in it, by their paths in the crate, and what is printed. None
-        stands for a file that is to go."""
-        crate, top = ROOT / "crates" / name, Path(tempfile.mkdtemp(prefix=f"{name}-", dir=self.room))
+    def tried(self, texts, words):
+        """Whether these functions of some crates, or all of one, are proved with these texts in them, and what is printed: a place in a
+        file begins with the name of its crate. The texts stand by crates, and then by their paths in the crate; None stands for a file that is to
+        go. The uppermost crate is checked, and the others are sources of it."""
+        top = Path(tempfile.mkdtemp(dir=self.room))
+        *others, name = [it for it in self.crates if it in texts]
         try:
-            for part in PARTS:
-                copy_if_there(crate / part, top / part, shutil.copyfile)
-            for path, text in texts.items():
-                if text is None:
-                    (top / path).unlink()
-                    continue
-                (top / path).parent.mkdir(parents=True, exist_ok=True)
-                (top / path).write_text(text)
-            root = "src/main.rt" if (top / "src/main.rt").exists() else "src/lib.rt"
-            words = [*self.words(name), *words]
-            ran = run([*self.before, f"{self.kit}/bin/rattle", "check", "--crate-name", name, root, *words], top)
-            return ran.returncode == 0, ran.stdout.splitlines()
+            for it in (*others, name):
+                lay_out(ROOT / "crates" / it, top / it, texts[it])
+            root = "src/main.rt" if (top / name / "src/main.rt").exists() else "src/lib.rt"
+            sources = [word for it in others for word in ("--lib", f"{it}:{','.join(('std', *self.crates[it][1]))}={top / it}/src/lib.rt")]
+            words = [*self.words([*others, name]), *sources, *words]
+            ran = run([*self.before, f"{self.kit}/bin/rattle", "check", "--crate-name", name, root, *words], top / name)
+            of_sources = ran.stdout.replace(f"{top}/", "").splitlines()
+            return ran.returncode == 0, [re.sub(r"^(note: )?(?:\./)?(src|proofs)/", rf"\g<1>{name}/\2/", line) for line in of_sources]
         finally:
             shutil.rmtree(top, ignore_errors=True)
+
+
+def lay_out(crate, folder, texts):
+    """Copies a crate into a folder, with these texts in it."""
+    for part in PARTS:
+        copy_if_there(crate / part, folder / part, shutil.copyfile)
+    for path, text in texts.items():
+        if text is None:
+            (folder / path).unlink()
+            continue
+        (folder / path).parent.mkdir(parents=True, exist_ok=True)
+        (folder / path).write_text(text)

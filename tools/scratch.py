@@ -23,6 +23,9 @@ PARTS = ("src", "specs", "proofs", "c")
 # The share of the free memory that tries may take.
 MEMORY = 0.85
 
+# The bytes that a try takes at least.
+LEAST_NEED = 7e8
+
 
 def libraries():
     """The crates of crates.txt, each with its line and those that it names."""
@@ -77,7 +80,7 @@ def count_of_lines(crate, ending):
 def likely_need(crate, below):
     """The memory in bytes that a try in this crate is likely to take: what `rt ci` reckons with, over kept work."""
     of_libraries = sum(count_of_lines(it, ".rt") for it in below)
-    return 0.7 * (1e9 + 1e6 * count_of_lines(crate, ".rt") + 2e5 * count_of_lines(crate, ".antt") + 8e4 * of_libraries)
+    return LEAST_NEED + 0.7 * (1e6 * count_of_lines(crate, ".rt") + 2e5 * count_of_lines(crate, ".antt") + 8e4 * of_libraries)
 
 
 def free_memory():
@@ -170,7 +173,7 @@ def run(words, folder, tells=False):
         STARTED.add(started)
         try:
             for line in started.stdout:
-                said.append(line)
+                said.append(f"{line[:-1]}, at {time.monotonic() - begun:.1f} s\n" if line.startswith("checked ") else line)
                 if tells and line.startswith("== ") and line != "== summary\n":
                     print(f"[{time.monotonic() - begun:.0f} s] {line[3:-1]}", flush=True)
         finally:

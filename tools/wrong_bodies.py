@@ -172,7 +172,7 @@ def changed_functions(edit):
 
 def is_of_a_goal(line):
     """Whether a line of `rt check` speaks of a goal, and not of a name that an answer has and the edit took away."""
-    said = re.match(r"(?:note: )?(?:\./)?(?:src|proofs)/\S+?:\d+:\d+: (error.*|.*not proved that.*|.*found no proof.*)", line)
+    said = re.match(r"(?:note: )?(?:\./|\w+/)?(?:src|proofs)/\S+?:\d+:\d+: (error.*|.*not proved that.*|.*found no proof.*)", line)
     gone = "has no field|is not in scope|has no `|was not admitted|can be named from here"
     return said is not None and not re.search(gone, said[1])
 
@@ -187,13 +187,20 @@ def is_named(path, name):
     return f"::{path}".endswith(f"::{name}")
 
 
+def place_in(line, crate):
+    """The file of a crate, and the number of the line, of which a line of `rt check` speaks, if it does. Where several crates are
+    checked the place begins with the name of its crate."""
+    said = re.match(r"(?:note: )?(?:\./)?(?:(\w+)/)?((?:src|proofs)/\S+?):(\d+):\d+: ", line)
+    return (crate / said[2], int(said[3])) if said and said[1] in (None, crate.name) else None
+
+
 def speaks_of(line, function, crate):
     """Whether a line of `rt check` is of a place in this function, or in its answers."""
-    said = re.match(r"(?:note: )?(?:\./)?((?:src|proofs)/\S+?):(\d+):\d+: ", line)
-    if not said:
+    place = place_in(line, crate)
+    if not place:
         return False
-    path = crate / said[1]
+    path, number = place
     if path == function.file:
-        return function.top <= int(said[2]) - 1 <= function.last
+        return function.top <= number - 1 <= function.last
     name = function.printed(crate).removeprefix(f"{crate.name}::")
     return f"/{path.parent}".endswith("/" + name.replace("::", "/"))
