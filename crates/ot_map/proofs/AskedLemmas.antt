@@ -121,7 +121,7 @@ with_asks-order (ask ∷ asks) c ordered = with_asks-order asks (with_ask ask c)
 
 -- ---- one list and then another
 
-with_asks-append : (xs ys : List Ask) (c : Collected) → with_asks (xs ++ ys) c ≡ with_asks ys (with_asks xs c)
+pub with_asks-append : (xs ys : List Ask) (c : Collected) → with_asks (xs ++ ys) c ≡ with_asks ys (with_asks xs c)
 with_asks-append [] ys c = refl
 with_asks-append (x ∷ xs) ys c = with_asks-append xs ys (with_ask x c)
 

@@ -21,6 +21,10 @@ every_glyph = record {
 abbrev pub no_flag : FeatureFlags
 no_flag = record every_glyph { is_global = false }
 
+-- an input passes over no joiner
+abbrev pub over_no_joiner : FeatureFlags
+over_no_joiner = record no_flag { manual_zwj = true }
+
 -- a value that is asked for: each glyph has it by default, if the feature is one of every glyph
 unfoldable pub requested : Tag → FeatureFlags → ℕ → ℕ → FeatureRequest
 requested tag flags value stage = record {

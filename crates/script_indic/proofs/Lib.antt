@@ -2,3 +2,4 @@
 -- same items in another order (`PlacedLemmas`).
 
 pub mod PlacedLemmas
+pub mod IndicRows

@@ -1,7 +1,9 @@
 //! The features that Indic scripts ask for, in their stages (OpenType, "Developing OpenType Fonts for Devanagari Script").
 
 ghost use Rattle.std.specs.Prelude.{◌≡◌, ◌++◌, IfOk};
+ghost use Rattle.ot_map.specs.Asked.{Asks};
 ghost use Rattle.ot_map.specs.Pauses.{HasSamePauses};
+ghost use Rattle.script_indic.specs.IndicFeatures.{indic_features, indic_overrides};
 ghost use Rattle.script_indic.specs.Stages.{indic_pauses};
 
 use crate::plan::{ConsonantForms, IndicMasks, IndicPlan};
@@ -43,7 +45,8 @@ const WITHIN_SYLLABLE: FeatureFlags = FeatureFlags {
 
 /// Asks for the features, with the pauses at which syllables are found and reordered.
 pub fn collect_features(builder: &mut PlanBuilder) -> Result<(), AllocError>
-    ensures { IfOk result (λ _. builder.new.pauses.items ≡ builder.old.pauses.items ++ indic_pauses) }
+    ensures pauses { IfOk result (λ _. builder.new.pauses.items ≡ builder.old.pauses.items ++ indic_pauses) }
+    ensures asks { IfOk result (λ _. Asks indic_features builder.old builder.new) }
 {
     builder.add_gsub_pause(Pause::SetUpSyllables)?;
     builder.enable_feature(Tag::from_bytes(b"locl"), PER_SYLLABLE)?;
@@ -51,14 +54,17 @@ pub fn collect_features(builder: &mut PlanBuilder) -> Result<(), AllocError>
     builder.add_gsub_pause(Pause::InitialReordering)?;
     add_in_stages(builder, &BASIC_FEATURES, WITHIN_SYLLABLE)?;
     builder.add_gsub_pause(Pause::FinalReordering)?;
-    add_all(builder, &OTHER_FEATURES, WITHIN_SYLLABLE)
+    add_all(builder, &OTHER_FEATURES, WITHIN_SYLLABLE)?;
+    Ok(())
 }
 
 /// Turns standard ligatures off, behind the features of a user.
 pub fn override_features(builder: &mut PlanBuilder) -> Result<(), AllocError>
-    ensures { HasSamePauses builder.old builder.new }
+    ensures pauses { HasSamePauses builder.old builder.new }
+    ensures asks { IfOk result (λ _. Asks indic_overrides builder.old builder.new) }
 {
-    builder.disable_feature(Tag::from_bytes(b"liga"))
+    builder.disable_feature(Tag::from_bytes(b"liga"))?;
+    Ok(())
 }
 
 /// The plan for a script and the features of a font.

@@ -3,7 +3,7 @@
 use Rattle.std.specs.Prelude.{ℕ, Bool, true, false, Option, Some, None, not, ◌==◌, ◌&&◌, ◌||◌, ◌++◌, List, [], ◌∷◌, codes, get_or, map, if◌then◌else◌}
 use Rattle.rb_common.specs.Tag.{tag_of}
 use Rattle.ot_map.specs.Asked.{Ask, EndStage, Request, in_stages, named, of_some}
-use Rattle.ot_map.specs.Requests.{no_flag}
+use Rattle.ot_map.specs.Requests.{no_flag, over_no_joiner}
 use Rattle.ot_map.specs.declared.plan.Pause.{Pause}
 use Rattle.ot_map.specs.declared.plan.Pause.TheVariants.{ArabicFallback, Nothing, RecordStch}
 use Rattle.ot_map.specs.declared.request.FeatureFlags.{FeatureFlags}
@@ -13,10 +13,7 @@ abbrev pub is_arabic : Option ℕ → Bool
 is_arabic None = false
 is_arabic (Some script) = script == tag_of (codes "Arab")
 
--- an input passes over no joiner; and there is a fallback for a font without the feature
-abbrev pub over_no_joiner : FeatureFlags
-over_no_joiner = record no_flag { manual_zwj = true }
-
+-- there is a fallback for a font without the feature
 abbrev pub with_fallback : FeatureFlags
 with_fallback = record over_no_joiner { has_fallback = true }
 

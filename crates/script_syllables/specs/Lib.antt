@@ -4,3 +4,4 @@ pub mod Machines
 pub mod Moves
 pub mod Scripts
 pub mod Stages
+pub mod SyllableFeatures

@@ -1,3 +1,6 @@
 pub mod Composition
 pub mod Scripts
 pub mod Stages
+pub mod KhmerFeatures
+pub mod MyanmarFeatures
+pub mod UniversalFeatures

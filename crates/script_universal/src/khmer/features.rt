@@ -1,7 +1,9 @@
 //! The features that Khmer asks for, in their stages (OpenType, "Developing OpenType Fonts for Khmer Script").
 
 ghost use Rattle.std.specs.Prelude.{◌≡◌, ◌++◌, IfOk};
+ghost use Rattle.ot_map.specs.Asked.{Asks};
 ghost use Rattle.ot_map.specs.Pauses.{HasSamePauses};
+ghost use Rattle.script_universal.specs.KhmerFeatures.{khmer_features, khmer_overrides};
 ghost use Rattle.script_universal.specs.Stages.{khmer_pauses};
 
 use crate::khmer::plan::KhmerPlan;
@@ -21,7 +23,8 @@ const BASIC_FEATURES: [(&[u8; 4], bool); 5] = [
 
 /// Asks for the features, with the pauses at which syllables are found and reordered.
 pub fn collect_features(builder: &mut PlanBuilder) -> Result<(), AllocError>
-    ensures { IfOk result (λ _. builder.new.pauses.items ≡ builder.old.pauses.items ++ khmer_pauses) }
+    ensures pauses { IfOk result (λ _. builder.new.pauses.items ≡ builder.old.pauses.items ++ khmer_pauses) }
+    ensures asks { IfOk result (λ _. Asks khmer_features builder.old builder.new) }
 {
     builder.add_gsub_pause(Pause::SetUpSyllables)?;
     builder.add_gsub_pause(Pause::InitialReordering)?;
@@ -33,15 +36,18 @@ pub fn collect_features(builder: &mut PlanBuilder) -> Result<(), AllocError>
     };
     add_all(builder, &BASIC_FEATURES, flags)?;
     builder.add_gsub_pause(Pause::Nothing)?;
-    add_all(builder, &PRESENTATION_FEATURES, MANUAL_JOINERS)
+    add_all(builder, &PRESENTATION_FEATURES, MANUAL_JOINERS)?;
+    Ok(())
 }
 
 /// Asks for contextual ligatures, which Khmer requires, and turns standard ligatures off.
 pub fn override_features(builder: &mut PlanBuilder) -> Result<(), AllocError>
-    ensures { HasSamePauses builder.old builder.new }
+    ensures pauses { HasSamePauses builder.old builder.new }
+    ensures asks { IfOk result (λ _. Asks khmer_overrides builder.old builder.new) }
 {
     builder.enable_feature(Tag::from_bytes(b"clig"), FeatureFlags::NONE)?;
-    builder.disable_feature(Tag::from_bytes(b"liga"))
+    builder.disable_feature(Tag::from_bytes(b"liga"))?;
+    Ok(())
 }
 
 /// The plan for the features of a font.

@@ -1,6 +1,8 @@
 //! The features that Myanmar asks for, in their stages (OpenType, "Developing OpenType Fonts for Myanmar Script").
 
 ghost use Rattle.std.specs.Prelude.{◌≡◌, ◌++◌, IfOk};
+ghost use Rattle.ot_map.specs.Asked.{Asks};
+ghost use Rattle.script_universal.specs.MyanmarFeatures.{myanmar_features};
 ghost use Rattle.script_universal.specs.Stages.{myanmar_pauses};
 
 use ot_map::{FeatureFlags, Pause, PlanBuilder};
@@ -20,7 +22,8 @@ const BASIC_FEATURES: [(&[u8; 4], bool); 4] = [
 
 /// Asks for the features, with the pauses at which syllables are found and reordered.
 pub fn collect_features(builder: &mut PlanBuilder) -> Result<(), AllocError>
-    ensures { IfOk result (λ _. builder.new.pauses.items ≡ builder.old.pauses.items ++ myanmar_pauses) }
+    ensures pauses { IfOk result (λ _. builder.new.pauses.items ≡ builder.old.pauses.items ++ myanmar_pauses) }
+    ensures asks { IfOk result (λ _. Asks myanmar_features builder.old builder.new) }
 {
     builder.add_gsub_pause(Pause::SetUpSyllables)?;
     builder.enable_feature(Tag::from_bytes(b"locl"), PER_SYLLABLE)?;
@@ -32,5 +35,6 @@ pub fn collect_features(builder: &mut PlanBuilder) -> Result<(), AllocError>
     };
     add_in_stages(builder, &BASIC_FEATURES, flags)?;
     builder.add_gsub_pause(Pause::Nothing)?;
-    add_all(builder, &PRESENTATION_FEATURES, MANUAL_JOINER)
+    add_all(builder, &PRESENTATION_FEATURES, MANUAL_JOINER)?;
+    Ok(())
 }

@@ -2,7 +2,9 @@
 //! Universal Shaping Engine").
 
 ghost use Rattle.std.specs.Prelude.{◌≡◌, ◌++◌, IfOk};
+ghost use Rattle.ot_map.specs.Asked.{Asks};
 ghost use Rattle.script_universal.specs.Stages.{universal_pauses, universal_pauses_of_syllables, universal_pauses_of_records};
+ghost use Rattle.script_universal.specs.UniversalFeatures.{reordering_features, syllable_features, universal_features};
 
 use crate::universal::plan::{FormMasks, UniversalPlan};
 use ot_map::{FeatureFlags, LayoutPlan, Pause, PlanBuilder};
@@ -49,17 +51,20 @@ const WITHIN_SYLLABLE: FeatureFlags = FeatureFlags {
 
 /// Asks for the features, with the pauses at which syllables are found and reordered.
 pub fn collect_features(builder: &mut PlanBuilder) -> Result<(), AllocError>
-    ensures { IfOk result (λ _. builder.new.pauses.items ≡ builder.old.pauses.items ++ universal_pauses) }
+    ensures pauses { IfOk result (λ _. builder.new.pauses.items ≡ builder.old.pauses.items ++ universal_pauses) }
+    ensures asks { IfOk result (λ _. Asks universal_features builder.old builder.new) }
 {
     add_basic_features(builder)?;
     add_all(builder, &FORM_FEATURES, FeatureFlags::NONE)?;
     builder.add_gsub_pause(Pause::Nothing)?;
-    add_all(builder, &OTHER_FEATURES, MANUAL_JOINER)
+    add_all(builder, &OTHER_FEATURES, MANUAL_JOINER)?;
+    Ok(())
 }
 
 /// Asks for the features of syllables.
 fn add_basic_features(builder: &mut PlanBuilder) -> Result<(), AllocError>
-    ensures { IfOk result (λ _. builder.new.pauses.items ≡ builder.old.pauses.items ++ universal_pauses_of_syllables) }
+    ensures pauses { IfOk result (λ _. builder.new.pauses.items ≡ builder.old.pauses.items ++ universal_pauses_of_syllables) }
+    ensures asks { IfOk result (λ _. Asks syllable_features builder.old builder.new) }
 {
     builder.add_gsub_pause(Pause::SetUpSyllables)?;
     add_all(builder, &LETTER_FEATURES, PER_SYLLABLE)?;
@@ -67,19 +72,22 @@ fn add_basic_features(builder: &mut PlanBuilder) -> Result<(), AllocError>
     add_recorded_features(builder)?;
     add_all(builder, &BASIC_FEATURES, WITHIN_SYLLABLE)?;
     builder.add_gsub_pause(Pause::InitialReordering)?;
-    builder.add_gsub_pause(Pause::Nothing)
+    builder.add_gsub_pause(Pause::Nothing)?;
+    Ok(())
 }
 
 /// Asks for the features of which it is noted where they have made a glyph.
 fn add_recorded_features(builder: &mut PlanBuilder) -> Result<(), AllocError>
-    ensures { IfOk result (λ _. builder.new.pauses.items ≡ builder.old.pauses.items ++ universal_pauses_of_records) }
+    ensures pauses { IfOk result (λ _. builder.new.pauses.items ≡ builder.old.pauses.items ++ universal_pauses_of_records) }
+    ensures asks { IfOk result (λ _. Asks reordering_features builder.old builder.new) }
 {
     builder.add_gsub_pause(Pause::ClearSubstitutionFlags)?;
     builder.add_feature(Tag::from_bytes(b"rphf"), WITHIN_SYLLABLE, 1)?;
     builder.add_gsub_pause(Pause::RecordRphf)?;
     builder.add_gsub_pause(Pause::ClearSubstitutionFlags)?;
     builder.enable_feature(Tag::from_bytes(b"pref"), WITHIN_SYLLABLE)?;
-    builder.add_gsub_pause(Pause::RecordPref)
+    builder.add_gsub_pause(Pause::RecordPref)?;
+    Ok(())
 }
 
 /// The plan for the features of a font. `joins` says whether the letters of the script join by themselves.

@@ -1,8 +1,7 @@
 use Rattle.std.proofs.Common.{codes, true}
-use Rattle.ot_map.specs.Requests.{every_glyph}
+use Rattle.ot_map.specs.Requests.{every_glyph, over_no_joiner}
 use Rattle.ot_map.specs.declared.plan.Pause.TheVariants.{Nothing, RecordStch}
 use Rattle.ot_map.proofs.AskedLemmas.{asks_by_name, asks_pause, asks_then}
-use Rattle.script_joining.specs.ArabicFeatures.{over_no_joiner}
 use Rattle.script_joining.proofs.arabic.features.add_first_stages.Goals as goal
 
 pub returns : goal.returns

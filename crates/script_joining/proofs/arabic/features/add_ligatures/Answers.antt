@@ -1,9 +1,10 @@
 use Rattle.std.proofs.Common.{◌≡◌, ◌∙◌, ap, codes, not, subst, true}
 use Rattle.rb_common.specs.Tag.{tag_of}
 use Rattle.ot_map.specs.Asked.{Asks, has_feature}
+use Rattle.ot_map.specs.Requests.{over_no_joiner}
 use Rattle.ot_map.specs.declared.plan.Pause.TheVariants.{Nothing}
 use Rattle.ot_map.proofs.AskedLemmas.{asks_by_name, asks_then, has_feature-same}
-use Rattle.script_joining.specs.ArabicFeatures.{ended_if, over_no_joiner}
+use Rattle.script_joining.specs.ArabicFeatures.{ended_if}
 use Rattle.script_joining.proofs.arabic.features.add_ligatures.Goals as goal
 
 pub returns : goal.returns
