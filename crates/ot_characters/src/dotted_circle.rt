@@ -8,6 +8,7 @@ ghost use Rattle.shaping_buffer.specs.KeepsClusters.{KeepsClusters};
 ghost use Rattle.shaping_buffer.specs.Step.{Meets};
 ghost use Rattle.shaping_buffer.specs.Step as step;
 ghost use Rattle.ot_characters.specs.Circle as circles;
+ghost use Rattle.shaping_passes.specs.Refusals.{IsRefusal};
 
 use font_functions::FontFunctions;
 use script_items::glyph_info::set_unicode_props;
@@ -27,6 +28,7 @@ pub fn insert_dotted_circle<F: FontFunctions>(
     requires { buffer.old.have_output ≡ false }
     ensures inserts { IfOk result (circles.InsertsCircle (F.has font.now) buffer.old buffer.new) }
     ensures closed { IfOk result (λ done. done ≡ true → buffer.new.have_output ≡ false) }
+    ensures refusal { IsRefusal false result buffer.new }
     ensures keeps { KeepsClusters buffer.old buffer.new }
 {
     if !wants_circle(buffer) {
@@ -52,6 +54,7 @@ fn insert_circle(buffer: &mut hb_buffer_t) -> Result<bool, AllocError>
     requires some { 0 < length buffer.old.input }
     ensures inserts { IfOk result (circles.HasCircle buffer.old buffer.new) }
     ensures closed { IfOk result (λ done. done ≡ true → buffer.new.have_output ≡ false) }
+    ensures refusal { IsRefusal false result buffer.new }
     ensures keeps { KeepsClusters buffer.old buffer.new }
 {
     let circle = circle_before(&buffer.info()[0]);

@@ -1,9 +1,10 @@
 //! The dotted circle as the base of syllables that have none.
 
-ghost use Rattle.std.specs.Prelude.{◌≡◌, ◌<◌, ◌≤◌, true, false, length, IfOk};
+ghost use Rattle.std.specs.Prelude.{◌≡◌, ◌<◌, ◌≤◌, true, false, length, IfOk, None};
 ghost use Rattle.glyph_lists.specs.Clusters.{clusters, occurs};
 ghost use Rattle.shaping_buffer.specs.ClusterStep.{both};
 ghost use Rattle.script_syllables.specs.KeepsNumbers.{KeepsNumbers};
+ghost use Rattle.shaping_passes.specs.Refusals.{IsRefusal};
 
 use crate::category::position::Position;
 use crate::font::FontForms;
@@ -45,6 +46,7 @@ pub fn insert_dotted_circles<F: FontForms>(
 ) -> Result<bool, AllocError>
     requires { buffer.old.have_output ≡ false }
     ensures closed { IfOk result (λ done. done ≡ true → buffer.new.have_output ≡ false) }
+    ensures refusal { IsRefusal false result buffer.new }
     ensures keeps { KeepsNumbers buffer.old buffer.new }
 {
     let is_wanted = buffer.scratch_flags & HB_BUFFER_SCRATCH_FLAG_HAS_BROKEN_SYLLABLE != 0
@@ -69,6 +71,7 @@ pub fn insert_dotted_circles<F: FontForms>(
 fn put_circles(buffer: &mut hb_buffer_t, circle: &Circle) -> Result<bool, AllocError>
     requires { buffer.old.have_output ≡ true }
     ensures opened { IfOk result (λ _. buffer.new.have_output ≡ true) }
+    ensures refusal { IsRefusal false result buffer.new }
     ensures keeps { KeepsNumbers buffer.old buffer.new }
 {
     let mut last = 0;
@@ -91,6 +94,7 @@ fn read_next(buffer: &mut hb_buffer_t, circle: &Circle, last: u8) -> Result<Opti
     requires opened { buffer.old.have_output ≡ true }
     requires glyph { 0 < length buffer.old.input }
     ensures opened { IfOk result (λ _. buffer.new.have_output ≡ true) }
+    ensures refusal { IsRefusal None result buffer.new }
     ensures keeps { KeepsNumbers buffer.old buffer.new }
 {
     let syllable = buffer.cur(0).syllable();
@@ -131,6 +135,7 @@ fn put_circle(buffer: &mut hb_buffer_t, circle: &Circle, rephs: usize) -> Result
     requires glyph { 0 < length buffer.old.input }
     requires rephs { rephs ≤ length buffer.old.input }
     ensures opened { IfOk result (λ _. buffer.new.have_output ≡ true) }
+    ensures refusal { IsRefusal false result buffer.new }
     ensures keeps { KeepsNumbers buffer.old buffer.new }
 {
     let info = circle_at(circle, buffer.cur(0));

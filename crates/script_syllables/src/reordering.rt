@@ -2,6 +2,7 @@
 
 ghost use Rattle.std.specs.Prelude.{◌≡◌, true, false, IfOk};
 ghost use Rattle.script_syllables.specs.KeepsNumbers.{KeepsNumbers};
+ghost use Rattle.shaping_passes.specs.Refusals.{IsRefusal};
 
 use crate::dotted_circle::{CircleKind, insert_dotted_circles};
 use crate::font::FontForms;
@@ -29,6 +30,7 @@ pub fn reorder<F: FontForms, O: SyllableOrder>(
 ) -> Result<bool, AllocError>
     requires { buffer.old.have_output ≡ false }
     ensures closed { IfOk result (λ done. done ≡ true → buffer.new.have_output ≡ false) }
+    ensures refusal { IsRefusal false result buffer.new }
     ensures keeps { KeepsNumbers buffer.old buffer.new }
 {
     if !insert_dotted_circles(buffer, font, circle)? {

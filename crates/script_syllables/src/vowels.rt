@@ -4,6 +4,7 @@
 ghost use Rattle.std.specs.Prelude.{◌≡◌, ◌<◌, true, false, length, IfOk};
 ghost use Rattle.glyph_lists.specs.Clusters.{clusters};
 ghost use Rattle.shaping_buffer.specs.KeepsClusters.{KeepsClusters};
+ghost use Rattle.shaping_passes.specs.Refusals.{IsRefusal};
 
 use crate::dotted_circle::DOTTED_CIRCLE;
 use crate::vowel_sequences::third_vowel;
@@ -22,6 +23,7 @@ use std::alloc::AllocError;
 pub fn part_vowels(buffer: &mut hb_buffer_t) -> Result<bool, AllocError>
     requires { buffer.old.have_output ≡ false }
     ensures closed { IfOk result (λ done. done ≡ true → buffer.new.have_output ≡ false) }
+    ensures refusal { IsRefusal false result buffer.new }
     ensures keeps { KeepsClusters buffer.old buffer.new }
 {
     if buffer
@@ -43,6 +45,7 @@ pub fn part_vowels(buffer: &mut hb_buffer_t) -> Result<bool, AllocError>
 fn read_all(buffer: &mut hb_buffer_t) -> Result<bool, AllocError>
     requires { buffer.old.have_output ≡ true }
     ensures opened { IfOk result (λ _. buffer.new.have_output ≡ true) }
+    ensures refusal { IsRefusal false result buffer.new }
     ensures keeps { KeepsClusters buffer.old buffer.new }
 {
     for _turn in 0..buffer.len() {
@@ -62,13 +65,15 @@ fn read_next(buffer: &mut hb_buffer_t) -> Result<bool, AllocError>
     requires opened { buffer.old.have_output ≡ true }
     requires glyph { 0 < length buffer.old.input }
     ensures opened { IfOk result (λ _. buffer.new.have_output ≡ true) }
+    ensures refusal { IsRefusal false result buffer.new }
     ensures keeps { KeepsClusters buffer.old buffer.new }
 {
     let Some(count) = sequence_length(buffer) else {
         return buffer.next_glyph();
     };
     keep_sequence(buffer, count);
-    if count == 0 || count > buffer.lookahead_len() || !buffer.next_glyphs(count - 1)? {
+    let before = count.saturating_sub(1).min(buffer.lookahead_len());
+    if !buffer.next_glyphs(before)? {
         return Ok(false);
     }
     if !buffer.output_glyph(DOTTED_CIRCLE)? {

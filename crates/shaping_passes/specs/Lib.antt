@@ -5,3 +5,4 @@ pub mod NormalizationComposition
 pub mod Seams
 pub mod Ignorables
 pub mod Lines
+pub mod Refusals

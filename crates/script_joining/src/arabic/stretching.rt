@@ -1,8 +1,9 @@
 //! Marks that are stretched over a word: their pieces are repeated behind the glyphs of the word (OpenType, feature `stch`).
 
-ghost use Rattle.std.specs.Prelude.{◌≡◌, ◌≤◌, ◌<◌, false, true, length, IfOk, IsSome};
+ghost use Rattle.std.specs.Prelude.{◌≡◌, ◌≤◌, ◌<◌, false, true, length, IfOk, IsSome, None};
 ghost use Rattle.glyph_lists.specs.Clusters.{clusters};
 ghost use Rattle.shaping_buffer.specs.KeepsClusters.{KeepsClusters};
+ghost use Rattle.shaping_passes.specs.Refusals.{IsRefusal};
 
 use crate::arabic::measure::{FIXED, REPEATING, Stretch, last_stretch};
 use rb_glyph::{Flags, GlyphPosition, GlyphPropsFlags, hb_glyph_info_t};
@@ -83,19 +84,35 @@ pub fn stretch<F: FontGlyphs>(
     requires placed { IsSome buffer.old.positions }
     ensures closed { IfOk result (λ done. done ≡ true → buffer.new.have_output ≡ false) }
     ensures placed { IfOk result (λ done. done ≡ true → IsSome buffer.new.positions) }
+    ensures refusal { IsRefusal false result buffer.new }
     ensures keeps { KeepsClusters buffer.old buffer.new }
 {
     if buffer.scratch_flags & HB_BUFFER_SCRATCH_FLAG_SHAPER0 == 0 {
         return Ok(true);
     }
-    let stretched = if buffer.direction == Direction::RightToLeft {
+    match stretched_line(alloc, buffer, font)? {
+        Some(stretched) => stretched.put_into(buffer),
+        None => Ok(false),
+    }
+}
+
+/// What a text becomes, whichever way its line runs; `None` where it would become too long.
+fn stretched_line<F: FontGlyphs>(
+    alloc: Global,
+    buffer: &mut hb_buffer_t,
+    font: &F,
+) -> Result<Option<Stretched>, AllocError>
+    requires closed { buffer.old.have_output ≡ false }
+    requires placed { IsSome buffer.old.positions }
+    ensures closed { buffer.new.have_output ≡ false }
+    ensures placed { IsSome buffer.new.positions }
+    ensures refusal { IsRefusal None result buffer.new }
+    ensures keeps { KeepsClusters buffer.old buffer.new }
+{
+    if buffer.direction == Direction::RightToLeft {
         stretched_text(alloc, buffer, font, true)
     } else {
         stretched_backwards(alloc, buffer, font)
-    };
-    match stretched? {
-        Some(stretched) => stretched.put_into(buffer),
-        None => Ok(false),
     }
 }
 
@@ -109,6 +126,7 @@ fn stretched_backwards<F: FontGlyphs>(
     requires placed { IsSome buffer.old.positions }
     ensures closed { buffer.new.have_output ≡ false }
     ensures placed { IsSome buffer.new.positions }
+    ensures refusal { IsRefusal None result buffer.new }
     ensures keeps { KeepsClusters buffer.old buffer.new }
 {
     buffer.reverse();
@@ -128,6 +146,7 @@ fn stretched_text<F: FontGlyphs>(
     requires placed { IsSome buffer.old.positions }
     ensures closed { buffer.new.have_output ≡ false }
     ensures placed { IsSome buffer.new.positions }
+    ensures refusal { IsRefusal None result buffer.new }
     ensures keeps { KeepsClusters buffer.old buffer.new }
 {
     let stretches = stretches_of(alloc, buffer, font)?;
@@ -315,6 +334,7 @@ impl Stretched {
         requires { buffer.old.have_output ≡ false }
         ensures closed { IfOk result (λ done. done ≡ true → buffer.new.have_output ≡ false) }
         ensures placed { IfOk result (λ done. done ≡ true → IsSome buffer.new.positions) }
+        ensures refusal { IsRefusal false result buffer.new }
         ensures keeps { KeepsClusters buffer.old buffer.new }
     {
         if !repeat_glyphs(buffer, self.counts.as_slice())? {
@@ -338,6 +358,7 @@ fn put_positions(places: &mut [GlyphPosition], positions: &[GlyphPosition]) {
 fn repeat_glyphs(buffer: &mut hb_buffer_t, counts: &[usize]) -> Result<bool, AllocError>
     requires { buffer.old.have_output ≡ false }
     ensures closed { IfOk result (λ done. done ≡ true → buffer.new.have_output ≡ false) }
+    ensures refusal { IsRefusal false result buffer.new }
     ensures keeps { KeepsClusters buffer.old buffer.new }
 {
     buffer.clear_output();
@@ -349,20 +370,21 @@ fn repeat_glyphs(buffer: &mut hb_buffer_t, counts: &[usize]) -> Result<bool, All
     buffer.sync()
 }
 
-/// Puts the current glyph out so often, and reads it.
+/// Puts the current glyph out so often, and reads it, if there is one.
 #[tactic(auto, using(shaping_buffer::proofs::ClosedKeepsLemmas::kept))]
 fn repeat_glyph(buffer: &mut hb_buffer_t, count: usize) -> Result<bool, AllocError>
     requires { buffer.old.have_output ≡ true }
     ensures opened { IfOk result (λ _. buffer.new.have_output ≡ true) }
+    ensures refusal { IsRefusal false result buffer.new }
     ensures keeps { KeepsClusters buffer.old buffer.new }
 {
-    for _turn in 1..count {
-        if buffer.lookahead_len() == 0 || !buffer.copy_glyph()? {
-            return Ok(false);
-        }
-    }
     if buffer.lookahead_len() == 0 {
         return Ok(true);
+    }
+    for _turn in 1..count {
+        if !buffer.copy_glyph()? {
+            return Ok(false);
+        }
     }
     buffer.next_glyph()
 }

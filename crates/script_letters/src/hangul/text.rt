@@ -1,9 +1,10 @@
 //! The syllables of a text.
 
-ghost use Rattle.std.specs.Prelude.{◌≡◌, ◌<◌, ◌≤◌, ◌+◌, false, true, length, IfOk};
+ghost use Rattle.std.specs.Prelude.{◌≡◌, ◌<◌, ◌≤◌, ◌+◌, false, true, length, IfOk, None};
 ghost use Rattle.shaping_buffer.specs.KeepsClusters.{KeepsClusters};
 ghost use Rattle.glyph_lists.specs.Clusters.{clusters};
 ghost use Rattle.shaping_buffer.specs.State.{len};
+ghost use Rattle.shaping_passes.specs.Refusals.{IsRefusal};
 
 use crate::hangul::jamo::is_tone;
 use crate::hangul::syllables::{Step, next_step, unsafe_length};
@@ -26,6 +27,7 @@ pub(crate) struct Syllable {
 pub fn prepare<F: FontGlyphs>(buffer: &mut hb_buffer_t, font: &F) -> Result<bool, AllocError>
     requires { buffer.old.have_output ≡ false }
     ensures closed { IfOk result (λ done. done ≡ true → buffer.new.have_output ≡ false) }
+    ensures refusal { IsRefusal false result buffer.new }
     ensures keeps { KeepsClusters buffer.old buffer.new }
 {
     buffer.clear_output();
@@ -52,6 +54,7 @@ fn read_next<F: FontGlyphs>(
     requires opened { buffer.old.have_output ≡ true }
     requires glyph { 0 < length buffer.old.input }
     ensures opened { IfOk result (λ _. buffer.new.have_output ≡ true) }
+    ensures refusal { IsRefusal None result buffer.new }
     ensures keeps { KeepsClusters buffer.old buffer.new }
 {
     let first = buffer.cur(0).glyph_id;
@@ -74,6 +77,7 @@ fn read_syllable<F: FontGlyphs>(
     requires opened { buffer.old.have_output ≡ true }
     requires glyph { 0 < length buffer.old.input }
     ensures opened { IfOk result (λ _. buffer.new.have_output ≡ true) }
+    ensures refusal { IsRefusal None result buffer.new }
     ensures keeps { KeepsClusters buffer.old buffer.new }
 {
     let first = character_at(buffer.info(), 0);
@@ -82,7 +86,10 @@ fn read_syllable<F: FontGlyphs>(
     let step = next_step(font, first, second, third);
     flag_unsafe(buffer, unsafe_length(step, first, second, third));
     let start = buffer.out_len();
-    if buffer.lookahead_len() == 0 || !take_step(buffer, step)? {
+    if buffer.lookahead_len() == 0 {
+        return Ok(Some(Syllable { start, end: start }));
+    }
+    if !take_step(buffer, step)? {
         return Ok(None);
     }
     let end = match step {
@@ -120,6 +127,7 @@ fn take_step(buffer: &mut hb_buffer_t, step: Step) -> Result<bool, AllocError>
     requires opened { buffer.old.have_output ≡ true }
     requires glyph { 0 < length buffer.old.input }
     ensures opened { IfOk result (λ _. buffer.new.have_output ≡ true) }
+    ensures refusal { IsRefusal false result buffer.new }
     ensures keeps { KeepsClusters buffer.old buffer.new }
 {
     let start = buffer.out_len();
@@ -128,10 +136,18 @@ fn take_step(buffer: &mut hb_buffer_t, step: Step) -> Result<bool, AllocError>
             buffer.replace_glyphs(count, 1, &[syllable])
         }
         Step::Jamo(count) if count <= buffer.lookahead_len() => {
-            Ok(buffer.next_glyphs(count)? && end_jamo(buffer, start))
+            if !buffer.next_glyphs(count)? {
+                return Ok(false);
+            }
+            end_jamo(buffer, start);
+            Ok(true)
         }
         Step::Decompose(jamo, takes_next) => {
-            Ok(put_jamo(buffer, jamo, takes_next)? && end_jamo(buffer, start))
+            if !put_jamo(buffer, jamo, takes_next)? {
+                return Ok(false);
+            }
+            end_jamo(buffer, start);
+            Ok(true)
         }
         _ => buffer.next_glyph(),
     }
@@ -147,6 +163,7 @@ fn put_jamo(
     requires opened { buffer.old.have_output ≡ true }
     requires glyph { 0 < length buffer.old.input }
     ensures opened { IfOk result (λ _. buffer.new.have_output ≡ true) }
+    ensures refusal { IsRefusal false result buffer.new }
     ensures keeps { KeepsClusters buffer.old buffer.new }
 {
     let (leading, vowel, trailing) = jamo;
@@ -162,7 +179,7 @@ fn put_jamo(
 
 /// Lets the jamo that were put out from a place on keep where they stand, in one cluster.
 #[tactic(auto, using(shaping_buffer::proofs::ClosedKeepsLemmas::kept))]
-fn end_jamo(buffer: &mut hb_buffer_t, start: usize) -> bool
+fn end_jamo(buffer: &mut hb_buffer_t, start: usize)
     requires { buffer.old.have_output ≡ true }
     ensures opened { buffer.new.have_output ≡ true }
     ensures keeps { KeepsClusters buffer.old buffer.new }
@@ -172,7 +189,6 @@ fn end_jamo(buffer: &mut hb_buffer_t, start: usize) -> bool
     if buffer.cluster_level == HB_BUFFER_CLUSTER_LEVEL_MONOTONE_GRAPHEMES && start <= end {
         buffer.merge_out_clusters(start, end);
     }
-    true
 }
 
 /// Lets the jamo from a place on keep 1, 2 and 3.

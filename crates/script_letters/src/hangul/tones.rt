@@ -2,6 +2,7 @@
 
 ghost use Rattle.std.specs.Prelude.{◌≡◌, ◌<◌, ◌≤◌, ◌+◌, false, true, length, IfOk};
 ghost use Rattle.shaping_buffer.specs.KeepsClusters.{KeepsClusters};
+ghost use Rattle.shaping_passes.specs.Refusals.{IsRefusal};
 
 use crate::hangul::text::Syllable;
 use script_items::font::{FontGlyphs, has_no_width};
@@ -22,6 +23,7 @@ pub(crate) fn read_tone<F: FontGlyphs>(
     requires opened { buffer.old.have_output ≡ true }
     requires glyph { 0 < length buffer.old.input }
     ensures opened { IfOk result (λ _. buffer.new.have_output ≡ true) }
+    ensures refusal { IsRefusal false result buffer.new }
     ensures keeps { KeepsClusters buffer.old buffer.new }
 {
     let tone = buffer.cur(0).glyph_id;
@@ -54,11 +56,15 @@ fn read_after_syllable(
     requires order { last.start < last.end }
     requires ends { last.end ≡ length buffer.old.out }
     ensures opened { IfOk result (λ _. buffer.new.have_output ≡ true) }
+    ensures refusal { IsRefusal false result buffer.new }
     ensures keeps { KeepsClusters buffer.old buffer.new }
 {
     let read = buffer.idx();
     buffer.unsafe_to_break_from_outbuffer(Some(last.start), Some(read));
-    if buffer.lookahead_len() == 0 || !buffer.next_glyph()? {
+    if buffer.lookahead_len() == 0 {
+        return Ok(true);
+    }
+    if !buffer.next_glyph()? {
         return Ok(false);
     }
     let end = buffer.out_len();

@@ -6,6 +6,7 @@ ghost use Rattle.glyph_lists.specs.Clusters.{clusters};
 ghost use Rattle.shaping_buffer.specs.KeepsClusters.{KeepsClusters};
 ghost use Rattle.rb_glyph.specs.declared.info.hb_glyph_info_t.{hb_glyph_info_t};
 ghost use Rattle.script_letters.specs.Thai.{is_sara_am, is_above_base, parts_of};
+ghost use Rattle.shaping_passes.specs.Refusals.{IsRefusal};
 
 use script_items::item::become_mark;
 use script_items::moves::{merge_out, move_out_back};
@@ -37,6 +38,7 @@ fn is_above_base(character: u32) -> bool
 pub fn split_all(buffer: &mut hb_buffer_t) -> Result<bool, AllocError>
     requires { buffer.old.have_output ≡ false }
     ensures closed { IfOk result (λ done. done ≡ true → buffer.new.have_output ≡ false) }
+    ensures refusal { IsRefusal false result buffer.new }
     ensures keeps { KeepsClusters buffer.old buffer.new }
 {
     if plain_length(buffer.info()) == buffer.info().len() {
@@ -71,6 +73,7 @@ fn plain_length(infos: &[hb_glyph_info_t]) -> usize
 fn split_next(buffer: &mut hb_buffer_t) -> Result<bool, AllocError>
     requires { buffer.old.have_output ≡ true }
     ensures opened { IfOk result (λ _. buffer.new.have_output ≡ true) }
+    ensures refusal { IsRefusal false result buffer.new }
     ensures keeps { KeepsClusters buffer.old buffer.new }
 {
     let plain = plain_length(buffer.info());
@@ -89,6 +92,7 @@ fn split_current(buffer: &mut hb_buffer_t) -> Result<bool, AllocError>
     requires opened { buffer.old.have_output ≡ true }
     requires glyph { 0 < length buffer.old.input }
     ensures opened { IfOk result (λ _. buffer.new.have_output ≡ true) }
+    ensures refusal { IsRefusal false result buffer.new }
     ensures keeps { KeepsClusters buffer.old buffer.new }
 {
     let character = buffer.cur(0).glyph_id;
@@ -120,6 +124,7 @@ fn put_ring(buffer: &mut hb_buffer_t, ring: u32) -> Result<bool, AllocError>
     requires glyph { 0 < length buffer.old.input }
     ensures opened { IfOk result (λ _. buffer.new.have_output ≡ true) }
     ensures glyph { IfOk result (λ _. 0 < length buffer.new.input) }
+    ensures refusal { IsRefusal false result buffer.new }
     ensures keeps { KeepsClusters buffer.old buffer.new }
 {
     if !buffer.output_glyph(ring)? {

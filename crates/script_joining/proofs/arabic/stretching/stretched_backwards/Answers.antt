@@ -1,5 +1,13 @@
+use Rattle.std.proofs.Common.{None, subst, sym}
+use Rattle.shaping_buffer.specs.State.{State}
 use Rattle.shaping_buffer.proofs.KeepsLemmas.{turns_then_keeps, turns_twice}
+use Rattle.shaping_passes.specs.Refusals.{IsRefusal}
 use Rattle.script_joining.proofs.arabic.stretching.stretched_backwards.Goals as goal
+
+pub returns-clause-refusal : goal.returns-clause-refusal
+returns-clause-refusal g c =
+    subst (λ (t : State). IsRefusal None c.stretched_text-stretched.result t) (sym c.reverse-2.ensures.is)
+    c.stretched_text-stretched.ensures.refusal
 
 pub returns-clause-keeps : goal.returns-clause-keeps
 returns-clause-keeps g c =
