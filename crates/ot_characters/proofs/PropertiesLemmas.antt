@@ -197,7 +197,7 @@ remembered-kept c d flags kept =
 
 -- no number is found where none was met: 0 is looked for where 1 stands
 met_nowhere : (c place : ℕ) → place < 64 → c % 64 ≡ place
-    → (get_or (set (replicate 64 (0, 0)) 0 (1, 0)) place (0, 0)).0 ≡ c → ⊥
+    → (get_or {A = ℕ × ℕ} (set (replicate 64 (0, 0)) 0 (1, 0)) place (0, 0)).0 ≡ c → ⊥
 met_nowhere c zero below at is = let one : 1 ≡ c = is in omega (arith, at, one)
 met_nowhere c (suc place) below at is =
     let zeros : List (ℕ × ℕ) = replicate 64 (0, 0) in
@@ -209,17 +209,6 @@ met_nowhere c (suc place) below at is =
 
 pub met_none : (flags : ℕ) → AreMet (set (replicate 64 (0, 0)) 0 (1, 0)) flags
 met_none flags c is = let at : c % 64 < 64 = omega arith in absurd (met_nowhere c (c % 64) at refl is)
-
--- one that was met has the properties that are found
-pub met_found : (known : List (ℕ × ℕ)) (flags : ℕ) (g : hb_glyph_info_t) → AreMet known flags
-    → (get_or known (g.glyph_id % 64) (0, 0)).0 ≡ g.glyph_id
-    → record g { var2 = with_field g.var2 0 16 (get_or known (g.glyph_id % 64) (0, 0)).1 } ≡ with_properties g
-met_found known flags g met is =
-    ap (λ (word : ℕ). record g { var2 = with_field g.var2 0 16 word }) (met g.glyph_id is).0
-
-pub met_read : (known : List (ℕ × ℕ)) (flags : ℕ) (g : hb_glyph_info_t) → AreMet known flags
-    → (get_or known (g.glyph_id % 64) (0, 0)).0 ≡ g.glyph_id → flags ≡ remembered g.glyph_id flags
-met_read known flags g met is = sym (met g.glyph_id is).1
 
 -- the word of one that has its properties
 pub word_of : (g h : hb_glyph_info_t) (word : ℕ) → h ≡ with_properties g → word ≡ field h.var2 0 16 → word ≡ properties_of g.glyph_id
