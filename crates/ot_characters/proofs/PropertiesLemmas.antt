@@ -226,9 +226,10 @@ met_more known c word flags new long met has read d is =
     (elim (cases_eq (d % 64) (c % 64)) [
       | inl same ↦
           let row : at (d % 64) ≡ (c, word) = ap at same ∙ get_or-set_same known (c % 64) (c, word) (0, 0) in_range in
-          let one : c ≡ d = sym (ap (λ (r : ℕ × ℕ). r.0) row) ∙ is in
-          (ap (λ (r : ℕ × ℕ). r.1) row ∙ has ∙ ap properties_of one,
-          ap (λ (n : ℕ). remembered n (remembered c flags)) (sym one) ∙ remembered-twice c flags)
+          let one : c ≡ d = sym (ap (λ (r : ℕ × ℕ). r.0) row) ∙ is in (
+            ap (λ (r : ℕ × ℕ). r.1) row ∙ has ∙ ap properties_of one,
+            ap (λ (n : ℕ). remembered n (remembered c flags)) (sym one) ∙ remembered-twice c flags,
+          )
       | inr other ↦
           let row : at (d % 64) ≡ get_or known (d % 64) (0, 0) =
           get_or-set_other known (c % 64) (d % 64) (c, word) (0, 0) other in

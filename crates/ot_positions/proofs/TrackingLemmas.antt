@@ -66,8 +66,8 @@ module _ (mask : ℕ) (space : Space) (n : ℕ) (s : State) where
   pub tracked_all : length s.input ≤ n → tracked_before mask space n s ≡ tracked mask space s
   tracked_all all =
       ap (λ (gs : List hb_glyph_info_t). record s {
-      positions = option_map (each_changed (where_glyph (is_tracked mask) (moved_apart space)) gs) s.positions;
-    }) (take_all n (begun s.input) (omega (arith, all, length-begun s.input)))
+        positions = option_map (each_changed (where_glyph (is_tracked mask) (moved_apart space)) gs) s.positions;
+      }) (take_all n (begun s.input) (omega (arith, all, length-begun s.input)))
 
 pub tracked_none : (mask : ℕ) (space : Space) (s : State) → s ≡ tracked_before mask space 0 s
 tracked_none mask space s =

@@ -155,10 +155,7 @@ fn invisible_of(buffer: &hb_buffer_t) -> Option<GlyphId>
 }
 
 /// The glyph that stands for what is not to be seen: this one, or else that of the font's space.
-fn glyph_for_ignorables<F: FontFunctions>(
-    font: &F,
-    invisible: Option<GlyphId>,
-) -> Option<GlyphId>
+fn glyph_for_ignorables<F: FontFunctions>(font: &F, invisible: Option<GlyphId>) -> Option<GlyphId>
     ensures { ending.StandsForThem (F.has font.now) invisible result }
 {
     match invisible {
