@@ -9,7 +9,7 @@ use Rattle.std.proofs.lemmas.Nat.Bits.{bit_at_or, same_from_bits}
 use Rattle.std.specs.Int.{bit_at}
 use Rattle.std.specs.Prelude.{Option, Some, None}
 use lib.Utf8.{scalar}
-use Rattle.rb_glyph.specs.Fields.{field, with_field}
+use Rattle.rb_glyph.specs.Fields.{field}
 use Rattle.rb_glyph.specs.UnicodeProps.{ignorable_scratch}
 use Rattle.rb_glyph.specs.declared.info.hb_glyph_info_t.{hb_glyph_info_t}
 use Rattle.rb_glyph.specs.declared.scratch.TheConstants.{HB_BUFFER_SCRATCH_FLAG_HAS_NON_ASCII}
@@ -54,12 +54,12 @@ abbrev pub set_before : Option hb_glyph_info_t → ℕ → List hb_glyph_info_t 
 set_before behind i l = take i (characters_behind behind l) ++ drop i l
 
 -- the character at the place is as it was
-set_before-at : (behind : Option hb_glyph_info_t) (i : ℕ) (l : List hb_glyph_info_t)
+get_or-set_before : (behind : Option hb_glyph_info_t) (i : ℕ) (l : List hb_glyph_info_t)
     → get_or (set_before behind i l) i zero_glyph ≡ get_or l i zero_glyph
 unfolding characters_behind
-set_before-at behind zero l = refl
-set_before-at behind (suc i) [] = refl
-set_before-at behind (suc i) (g ∷ l) = set_before-at (Some (in_grapheme behind (with_properties g))) i l
+get_or-set_before behind zero l = refl
+get_or-set_before behind (suc i) [] = refl
+get_or-set_before behind (suc i) (g ∷ l) = get_or-set_before (Some (in_grapheme behind (with_properties g))) i l
 
 -- and gets its own
 set_before-more : (behind : Option hb_glyph_info_t) (i : ℕ) (l : List hb_glyph_info_t) → i < length l
@@ -96,8 +96,8 @@ unfolding characters_behind
 length-characters behind [] = refl
 length-characters behind (g ∷ l) = ap suc (length-characters (Some (in_grapheme behind (with_properties g))) l)
 
-pub characters_all : (i : ℕ) (l : List hb_glyph_info_t) → length l ≤ i → set_before None i l ≡ characters_behind None l
-characters_all i l all =
+pub set_before-all : (i : ℕ) (l : List hb_glyph_info_t) → length l ≤ i → set_before None i l ≡ characters_behind None l
+set_before-all i l all =
     ap (λ (k : List hb_glyph_info_t). k ++ drop i l) (take_all i (characters_behind None l) (omega (arith, all, length-characters None l)))
     ∙ ap (λ (k : List hb_glyph_info_t). characters_behind None l ++ k) (drop_all i l all)
     ∙ append-nil (characters_behind None l)
@@ -110,15 +110,15 @@ pub remembered_more : (i : ℕ) (old now : List hb_glyph_info_t) (first flags ne
 remembered_more i old now first flags new in_old before_is so_far is =
     is
     ∙ ap (λ (g : hb_glyph_info_t). remembered g.glyph_id flags)
-    (ap (λ (l : List hb_glyph_info_t). get_or l i zero_glyph) before_is ∙ set_before-at None i old)
+    (ap (λ (l : List hb_glyph_info_t). get_or l i zero_glyph) before_is ∙ get_or-set_before None i old)
     ∙ ap (remembered (get_or old i zero_glyph).glyph_id) so_far
     ∙ sym (fold_more (λ (f : ℕ) (g : hb_glyph_info_t). remembered g.glyph_id f) first old i zero_glyph in_old)
 
-pub remembered_all : (i : ℕ) (l : List hb_glyph_info_t) (flags : ℕ) → length l ≤ i
+pub all_remembered-all : (i : ℕ) (l : List hb_glyph_info_t) (flags : ℕ) → length l ≤ i
     → all_remembered (take i l) flags ≡ all_remembered l flags
-remembered_all i l flags all = ap (λ (k : List hb_glyph_info_t). all_remembered k flags) (take_all i l all)
+all_remembered-all i l flags all = ap (λ (k : List hb_glyph_info_t). all_remembered k flags) (take_all i l all)
 
-pub ruleset walks = (characters_all, remembered_all)
+pub ruleset walks = (set_before-all, all_remembered-all)
 
 -- ---- clusters stay
 
@@ -170,16 +170,16 @@ abbrev added : ℕ → ℕ
 added c =
     cond (scalar c) (cond (nat_lt c 0x80) 0 (bit_or HB_BUFFER_SCRATCH_FLAG_HAS_NON_ASCII (ignorable_scratch c))) 0
 
-added_if : (a b : Bool) (flags more : ℕ)
+cond-added : (a b : Bool) (flags more : ℕ)
     → cond a (cond b flags (bit_or flags more)) flags ≡ bit_or flags (cond a (cond b 0 more) 0)
-added_if true true flags more = or_comm 0 flags
-added_if true false flags more = refl
-added_if false b flags more = or_comm 0 flags
+cond-added true true flags more = or_comm 0 flags
+cond-added true false flags more = refl
+cond-added false b flags more = or_comm 0 flags
 
 remembered-added : (c flags : ℕ) → remembered c flags ≡ bit_or flags (added c)
 unfolding remembered
 remembered-added c flags =
-    added_if (scalar c) (nat_lt c 0x80) flags (bit_or HB_BUFFER_SCRATCH_FLAG_HAS_NON_ASCII (ignorable_scratch c))
+    cond-added (scalar c) (nat_lt c 0x80) flags (bit_or HB_BUFFER_SCRATCH_FLAG_HAS_NON_ASCII (ignorable_scratch c))
 
 remembered-twice : (c flags : ℕ) → remembered c (remembered c flags) ≡ remembered c flags
 remembered-twice c flags =

@@ -8,11 +8,11 @@ use Rattle.ot_positions.specs.Ending.{StandsForThem}
 zero_id : GlyphId
 zero_id = record { 0 = 0 }
 
-there_if : (b : Bool) → is_some (cond b (Some zero_id) None) ≡ b
-there_if true = refl
-there_if false = refl
+is_some-there : (b : Bool) → is_some (cond b (Some zero_id) None) ≡ b
+is_some-there true = refl
+is_some-there false = refl
 
 -- some glyph does, or none, as the font has one
 pub some_stands : (has : ℕ → Bool) (invisible : Option GlyphId) → (glyph : Option GlyphId) × StandsForThem has invisible glyph
-some_stands has None = (cond (has 0x20) (Some zero_id) None, record { own = λ some. absurd (false≢true some); space = λ _. there_if (has 0x20) })
+some_stands has None = (cond (has 0x20) (Some zero_id) None, record { own = λ some. absurd (false≢true some); space = λ _. is_some-there (has 0x20) })
 some_stands has (Some own) = (Some own, record { own = λ _. refl; space = λ none. cc })

@@ -1,5 +1,5 @@
 -- Graphemes that are moved apart one after the other.
-use Rattle.std.proofs.Common.{◌≡◌, ◌≢◌, ◌<◌, ◌≤◌, ℕ, zero, suc, Bool, true, false, List, [], ◌∷◌, length, take, get_or, refl, ap, ◌∙◌, arith}
+use Rattle.std.proofs.Common.{◌≡◌, ◌≢◌, ◌<◌, ◌≤◌, ℕ, zero, suc, true, false, List, [], ◌∷◌, length, take, get_or, refl, ap, arith}
 use Rattle.std.proofs.lemmas.List.{take_all}
 use Rattle.std.specs.Prelude.{Option, not, bit_and, ◌==◌, ◌&&◌}
 use Rattle.std.specs.Option.{option_map}
@@ -16,16 +16,16 @@ use Rattle.ot_positions.proofs.WidthsLemmas.{keeps_positions, some_at, some_left
 
 -- ---- which glyphs
 
-begun-first : (l : List hb_glyph_info_t) → 0 < length l
+get_or-begun : (l : List hb_glyph_info_t) → 0 < length l
     → get_or (begun l) 0 zero_glyph ≡ record (get_or l 0 zero_glyph) { var2 = 0 }
-begun-first [] some = absurd (omega (arith, some))
-begun-first (g ∷ l) some = refl
+get_or-begun [] some = absurd (omega (arith, some))
+get_or-begun (g ∷ l) some = refl
 
 -- the first of a text has a bit of the mask, and any other begins a grapheme, too
 pub is_tracked-first : (mask : ℕ) (l : List hb_glyph_info_t) (place : ℕ) → place < length l → place ≡ 0
     → is_tracked mask (get_or (begun l) place zero_glyph) ≡ not (bit_and (get_or l place zero_glyph).mask mask == 0)
 unfolding is_tracked
-is_tracked-first mask l zero in_range is = ap (is_tracked mask) (begun-first l in_range)
+is_tracked-first mask l zero in_range is = ap (is_tracked mask) (get_or-begun l in_range)
 is_tracked-first mask l (suc place) in_range is = absurd (omega (arith, is))
 
 pub is_tracked-other : (mask : ℕ) (l : List hb_glyph_info_t) (place : ℕ) → place ≢ 0

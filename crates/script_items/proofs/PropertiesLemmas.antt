@@ -1,9 +1,9 @@
 -- What is set where a number is that of a character, and where it is not; it fits its field. No character below U+0300 has a
 -- combining class.
-use Rattle.std.proofs.Common.{◌≡◌, ◌<◌, ◌*◌, ◌^◌, ℕ, Bool, true, ◌==◌, ◌||◌, List, [], ◌∷◌, bit_or, nat_lt, refl, sym, ap, ◌∙◌, arith, ltb-true, lt-ltb}
+use Rattle.std.proofs.Common.{◌≡◌, ◌<◌, ◌*◌, ◌^◌, ℕ, true, ◌==◌, ◌||◌, List, [], ◌∷◌, bit_or, nat_lt, refl, ap, ◌∙◌, arith, ltb-true, lt-ltb}
 use Rattle.std.proofs.lemmas.Bool.{cond-true, cond-false, cond_both, false_from_ne_true, and_from, and_parts}
 use Rattle.std.proofs.lemmas.Nat.{or_of_16}
-use Rattle.std.specs.Prelude.{Option, Some, None, unwrap_or, option_map, if◌then◌else◌}
+use Rattle.std.specs.Prelude.{Option, Some, unwrap_or, option_map, if◌then◌else◌}
 use Rattle.std.specs.List.{find, list_all}
 use lib.Utf8.{scalar}
 use Rattle.ucd_table.proofs.StepsLemmas.{row_steps, step_value-here}
@@ -21,11 +21,11 @@ use Rattle.rb_glyph.specs.declared.category.hb_unicode_general_category_t.TheVar
 use Rattle.rb_glyph.specs.declared.flag_sets.TheConstants.UnicodeProps.{CONTINUATION, IGNORABLE}
 use Rattle.script_items.specs.Properties.{class_of, class_row, properties_of, remembered}
 
-pub class_below : (c : ℕ) → c < 0x300 → canonical_combining_class c ≡ 0
+pub canonical_combining_class-below : (c : ℕ) → c < 0x300 → canonical_combining_class c ≡ 0
 unfolding canonical_combining_class_stepped row_steps canonical_combining_class_rows
-class_below c below = canonical_combining_class_stepped.gives c ∙ step_value-here 0 (0x300, 0) _ c below
+canonical_combining_class-below c below = canonical_combining_class_stepped.gives c ∙ step_value-here 0 (0x300, 0) _ c below
 
-pub ruleset classes = (class_below)
+pub ruleset classes = (canonical_combining_class-below)
 
 module _ (c : ℕ) (is : scalar c ≡ true) where
   pub properties_of-there : properties_of c ≡ props_word c (class_row c)
