@@ -24,20 +24,15 @@ mark_there l mark =
       | inr none ↦ absurd (false≢true (sym (no_mark l none) ∙ mark))
     ]
 
-pub has_circle : (s t u : State) (props : ℕ) (g : hb_glyph_info_t) (r : Result Bool AllocError)
-    → g ≡ circle_before props (head_of s) → t ≡ (output_info g (clear_output s)).state
+pub has_circle : (s t u : State) (g : hb_glyph_info_t) (r : Result Bool AllocError)
+    → g ≡ circle_before (head_of s) → t ≡ (output_info g (clear_output s)).state
     → Meets (sync t) t r u → IfOk r (HasCircle s u)
 unfolding with_circle
-has_circle s t u props g (Ok done) circle put meets =
-    let is : t ≡ (output_info (circle_before props (head_of s)) (clear_output s)).state =
-    put ∙ ap (λ (h : hb_glyph_info_t). (output_info h (clear_output s)).state) circle in (
-      props,
-      (
-        meets.0 ∙ ap (λ (x : State). (sync x).done) is,
-        meets.1 ∙ ap (λ (x : State). (sync x).state) is,
-      ),
-    )
-has_circle s t u props g (Err e) circle put meets = tt
+has_circle s t u g (Ok done) circle put meets =
+    let is : t ≡ (output_info (circle_before (head_of s)) (clear_output s)).state =
+    put ∙ ap (λ (h : hb_glyph_info_t). (output_info h (clear_output s)).state) circle in
+    (meets.0 ∙ ap (λ (x : State). (sync x).done) is, meets.1 ∙ ap (λ (x : State). (sync x).state) is)
+has_circle s t u g (Err e) circle put meets = tt
 
 module _ (has : ℕ → Bool) (s : State) where
   pub inserts-none : (wants_circle s && has 0x25CC) ≡ false → InsertsCircle has s s true

@@ -1,6 +1,6 @@
 //! The dotted circle before a text that begins with a mark (HarfBuzz, `hb_insert_dotted_circle`).
 
-ghost use Rattle.std.specs.Prelude.{◌≡◌, ◌<◌, ℕ, true, false, length, IfOk, slice_index_or};
+ghost use Rattle.std.specs.Prelude.{◌≡◌, ◌<◌, true, false, length, IfOk, slice_index_or};
 ghost use Rattle.glyph_lists.specs.Clusters.{zero_glyph};
 ghost use Rattle.script_items.specs.Marks.{is_mark};
 ghost use Rattle.shaping_buffer.specs.ClusterStep.{head_of};
@@ -77,7 +77,7 @@ fn put_circle(buffer: &mut hb_buffer_t, circle: hb_glyph_info_t) -> Result<bool,
 
 /// The dotted circle of a mark.
 fn circle_before(mark: &hb_glyph_info_t) -> hb_glyph_info_t
-    ensures is { (props : ℕ) × (result ≡ circles.circle_before props mark.now) }
+    ensures is { result ≡ circles.circle_before mark.now }
     ensures cluster { result.cluster ≡ mark.now.cluster }
 {
     let mut circle = hb_glyph_info_t {

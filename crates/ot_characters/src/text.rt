@@ -1,10 +1,14 @@
 //! The characters of a text, before they are mapped to glyphs: their properties, graphemes and direction.
 
-ghost use Rattle.std.specs.Prelude.{◌≡◌, ◌<◌, ◌≤◌, false, length};
+ghost use Rattle.std.specs.Prelude.{◌≡◌, ◌<◌, ◌≤◌, false, None, length, slice_index_or, slice_set};
+ghost use Rattle.glyph_lists.specs.Clusters.{zero_glyph};
 ghost use Rattle.shaping_buffer.specs.KeepsClusters.{KeepsClusters, TurnsClusters};
 ghost use Rattle.ot_characters.specs.FormedClusters as formed;
 ghost use Rattle.ot_characters.specs.NativeDirection as ways;
 ghost use Rattle.ot_characters.specs.Properties as properties;
+ghost use Rattle.ot_characters.specs.Properties.{AreMet, all_remembered, before, begins_flag, characters_behind, goes_on, in_grapheme, is_pictographic};
+ghost use Rattle.ot_characters.specs.Properties.{is_there, is_zwj};
+ghost use Rattle.script_items.specs.Properties.{remembered, with_properties};
 ghost use Rattle.ot_characters.specs.Turned.{KeepsOrTurns};
 
 use crate::glyph_info::{is_regional_indicator, is_same_grapheme, is_zwj, set_continuation};
@@ -29,7 +33,7 @@ const REMEMBERED: usize = 64;
 #[tactic(auto, using(shaping_buffer::proofs::ClosedKeepsLemmas::kept))]
 pub fn set_properties(buffer: &mut hb_buffer_t)
     requires { buffer.old.have_output ≡ false }
-    ensures sets { properties.SetsProperties buffer.old buffer.new }
+    ensures is { buffer.new ≡ properties.set_properties buffer.old }
     ensures closed { buffer.new.have_output ≡ false }
     ensures keeps { KeepsClusters buffer.old buffer.new }
 {
@@ -50,8 +54,8 @@ fn remember(buffer: &mut hb_buffer_t, scratch_flags: u32)
 /// Sets the properties of each character of a buffer; the scratch flags that then hold.
 fn set_all_in(buffer: &mut hb_buffer_t) -> u32
     requires { buffer.old.have_output ≡ false }
-    ensures alike { properties.AreAlike buffer.old.input buffer.new.input }
-    ensures others { buffer.new ≡ record buffer.old { input = buffer.new.input } }
+    ensures is { buffer.new ≡ record buffer.old { input = characters_behind None buffer.old.input } }
+    ensures remembered { result ≡ all_remembered buffer.old.input buffer.old.scratch_flags }
     ensures closed { buffer.new.have_output ≡ false }
     ensures keeps { KeepsClusters buffer.old buffer.new }
 {
@@ -61,89 +65,117 @@ fn set_all_in(buffer: &mut hb_buffer_t) -> u32
 }
 
 /// Sets the properties of each character.
-#[tactic(auto, using(crate::proofs::PropertiesLemmas::map_alike))]
+#[tactic(auto, using(crate::proofs::PropertiesLemmas::walks))]
 fn set_all_properties(infos: &mut [hb_glyph_info_t], scratch_flags: &mut u32)
-    ensures { properties.AreAlike infos.old infos.new }
+    ensures is { infos.new ≡ characters_behind None infos.old }
+    ensures remembered { scratch_flags.new ≡ all_remembered infos.old scratch_flags.old }
 {
     if infos.len() >= REMEMBERED {
         return set_many_properties(infos, scratch_flags);
     }
     for i in 0..infos.len() {
-        set_own_properties(&mut infos[i], scratch_flags);
-        if continues_grapheme(infos, i) {
-            go_on(&mut infos[i]);
-        }
+        set_unicode_props(&mut infos[i], scratch_flags);
+        join_grapheme(infos, i);
     }
 }
 
 /// Sets the properties of each of many characters, most of which were met before. The last character of each number, counted round, is
 /// remembered.
-#[tactic(auto, using(crate::proofs::PropertiesLemmas::map_alike))]
+#[tactic(auto, using(crate::proofs::PropertiesLemmas::walks))]
 fn set_many_properties(infos: &mut [hb_glyph_info_t], scratch_flags: &mut u32)
-    ensures { properties.AreAlike infos.old infos.new }
+    ensures is { infos.new ≡ characters_behind None infos.old }
+    ensures remembered { scratch_flags.new ≡ all_remembered infos.old scratch_flags.old }
 {
     let mut known = [(0, 0); REMEMBERED];
     // No character 0 was met: where it would be found stands another one.
     known[0] = (1, 0);
     for i in 0..infos.len() {
-        let character = infos[i].glyph_id;
-        let place = character as usize % REMEMBERED;
-        if known[place].0 == character {
-            set_known_properties(&mut infos[i], known[place].1);
-        } else {
-            set_own_properties(&mut infos[i], scratch_flags);
-            known[place] = (character, infos[i].unicode_props());
-        }
-        if continues_grapheme(infos, i) {
-            go_on(&mut infos[i]);
-        }
+        set_known_properties(&mut infos[i], &mut known, scratch_flags);
+        join_grapheme(infos, i);
     }
 }
 
-/// Sets the properties of a character.
+/// Sets the properties of a character, which may have been met before.
 #[inline]
-fn set_own_properties(info: &mut hb_glyph_info_t, scratch_flags: &mut u32)
-    ensures { properties.bare info.new ≡ properties.bare info.old }
+fn set_known_properties(
+    info: &mut hb_glyph_info_t,
+    known: &mut [(u32, u16); REMEMBERED],
+    scratch_flags: &mut u32,
+)
+    requires { AreMet known.old scratch_flags.old }
+    ensures is { info.new ≡ with_properties info.old }
+    ensures remembered { scratch_flags.new ≡ remembered info.old.glyph_id scratch_flags.old }
+    ensures met { AreMet known.new scratch_flags.new }
 {
-    set_unicode_props(info, scratch_flags);
+    let character = info.glyph_id;
+    let place = character as usize % REMEMBERED;
+    if known[place].0 == character {
+        info.set_unicode_props(known[place].1);
+    } else {
+        set_unicode_props(info, scratch_flags);
+        known[place] = (character, info.unicode_props());
+    }
 }
 
-/// Sets the properties of a character that was met before.
-fn set_known_properties(info: &mut hb_glyph_info_t, known: u16)
-    ensures { properties.bare info.new ≡ properties.bare info.old }
+/// Says of the character at a place whether it goes on with the grapheme before it.
+#[inline]
+fn join_grapheme(infos: &mut [hb_glyph_info_t], i: usize)
+    requires { i < length infos.old }
+    ensures { infos.new ≡ slice_set infos.old i (in_grapheme (before None i infos.old) (slice_index_or infos.old i zero_glyph)) }
 {
-    info.set_unicode_props(known);
-}
-
-/// Says that a character goes on with the grapheme before it.
-fn go_on(info: &mut hb_glyph_info_t)
-    ensures { properties.bare info.new ≡ properties.bare info.old }
-{
-    set_continuation(info);
+    if continues_grapheme(infos, i) {
+        set_continuation(&mut infos[i]);
+    }
 }
 
 /// Whether a character that is no mark goes on with the grapheme before it (Unicode Standard Annex 29): a modifier of
 /// an emoji, the second of two regional indicators, the zero width joiner and an emoji behind it, tags, and the voiced
 /// sound marks of halfwidth Katakana.
 #[inline]
+#[tactic(auto, unfolding(crate::specs::Properties::goes_on))]
 fn continues_grapheme(infos: &[hb_glyph_info_t], i: usize) -> bool
     requires { i < length infos.now }
+    ensures { result ≡ goes_on (before None i infos.now) (slice_index_or infos.now i zero_glyph) }
 {
     let info = &infos[i];
-    let before = if i > 0 { infos.get(i - 1) } else { None };
     match info.glyph_id {
         0..FIRST_PICTOGRAPHIC => false,
         0x1F3FB..=0x1F3FF => general_category(info) == RB_UNICODE_GENERAL_CATEGORY_MODIFIER_SYMBOL,
-        0x1F1E6..=0x1F1FF => {
-            before.is_some_and(|before| is_regional_indicator(before) && !is_continuation(before))
-        }
+        0x1F1E6..=0x1F1FF => is_behind_first_indicator(infos, i),
         0xFF9E..=0xFF9F | 0xE0020..=0xE007F => true,
-        _ => is_zwj(info) || before.is_some_and(|before| is_zwj(before)) && is_pictographic(info),
+        _ => is_zwj(info) || is_behind_zwj(infos, i) && is_pictographic(info),
     }
 }
 
+/// Whether the character before a place is the first of two regional indicators.
+#[tactic(auto, using(crate::proofs::PropertiesLemmas::places))]
+fn is_behind_first_indicator(infos: &[hb_glyph_info_t], i: usize) -> bool
+    requires { i < length infos.now }
+    ensures { result ≡ is_there begins_flag (before None i infos.now) }
+{
+    i > 0 && begins_flag(&infos[i - 1])
+}
+
+/// Whether the character is the first of two regional indicators.
+fn begins_flag(info: &hb_glyph_info_t) -> bool
+    ensures { result ≡ begins_flag info.now }
+{
+    is_regional_indicator(info) && !is_continuation(info)
+}
+
+/// Whether the character before a place is the zero width joiner.
+#[tactic(auto, using(crate::proofs::PropertiesLemmas::places))]
+fn is_behind_zwj(infos: &[hb_glyph_info_t], i: usize) -> bool
+    requires { i < length infos.now }
+    ensures { result ≡ is_there is_zwj (before None i infos.now) }
+{
+    i > 0 && is_zwj(&infos[i - 1])
+}
+
 /// Whether emoji are made from the character.
-fn is_pictographic(info: &hb_glyph_info_t) -> bool {
+fn is_pictographic(info: &hb_glyph_info_t) -> bool
+    ensures { result ≡ is_pictographic info.now }
+{
     match char::from_u32(info.glyph_id) {
         Some(character) => character.is_emoji_extended_pictographic(),
         None => false,

@@ -81,7 +81,7 @@ module _ (test : hb_glyph_info_t → Bool) (f : GlyphPosition → GlyphPosition)
   each_left (suc n) (g ∷ gs) [] in_range fails = refl
   each_left (suc n) (g ∷ gs) (p ∷ ps) in_range fails = ap (λ xs. where_glyph test f g p ∷ xs) (each_left n gs ps (omega (arith, in_range)) fails)
 
-  some_at : (n : ℕ) (gs : List hb_glyph_info_t) (o : Option (List GlyphPosition)) → n < length gs
+  pub some_at : (n : ℕ) (gs : List hb_glyph_info_t) (o : Option (List GlyphPosition)) → n < length gs
       → test (get_or gs n zero_glyph) ≡ true
       → option_map (changed_at f n) (option_map (each_changed (where_glyph test f) (take n gs)) o)
       ≡ option_map (each_changed (where_glyph test f) (take (suc n) gs)) o
@@ -93,7 +93,7 @@ module _ (test : hb_glyph_info_t → Bool) (f : GlyphPosition → GlyphPosition)
   before_at n s in_range passes =
       ap (λ (o : Option (List GlyphPosition)). record s { positions = o }) (some_at n s.input s.positions in_range passes)
 
-  some_left : (n : ℕ) (gs : List hb_glyph_info_t) (o : Option (List GlyphPosition)) → n < length gs
+  pub some_left : (n : ℕ) (gs : List hb_glyph_info_t) (o : Option (List GlyphPosition)) → n < length gs
       → test (get_or gs n zero_glyph) ≡ false
       → option_map (each_changed (where_glyph test f) (take n gs)) o
       ≡ option_map (each_changed (where_glyph test f) (take (suc n) gs)) o
@@ -105,7 +105,7 @@ module _ (test : hb_glyph_info_t → Bool) (f : GlyphPosition → GlyphPosition)
   before_left n s in_range fails =
       ap (λ (o : Option (List GlyphPosition)). record s { positions = o }) (some_left n s.input s.positions in_range fails)
 
-some_none : (f : Change) (o : Option (List GlyphPosition)) → o ≡ option_map (each_changed f []) o
+pub some_none : (f : Change) (o : Option (List GlyphPosition)) → o ≡ option_map (each_changed f []) o
 unfolding each_changed
 some_none f None = refl
 some_none f (Some ps) = refl

@@ -1,6 +1,8 @@
 -- Where marks stand in a font that does not position them, by combining classes of the Unicode Standard: 214 joined above, 220
 -- below, 222 below at the right, 228 above at the left, 230 above, 232 above at the right.
 use Rattle.std.specs.Prelude.{ℕ, Bool, ◌&&◌, ◌||◌, ◌==◌, nat_le, nat_lt, if◌then◌else◌}
+use Rattle.rb_glyph.specs.declared.info.hb_glyph_info_t.{hb_glyph_info_t}
+use Rattle.script_items.specs.Marks.{is_nonspacing, kept_class, with_class}
 
 abbrev pub within : ℕ → ℕ → ℕ → Bool
 within low high n = nat_le low n && nat_le n high
@@ -48,3 +50,7 @@ placed_by_class class =
 
 abbrev pub fallback_class : ℕ → ℕ → ℕ
 fallback_class u class = placed_by_class (placed_by_character u class)
+
+-- `recategorize_marks`: a mark without width has that class, and any other character stays
+unfoldable pub recategorized : hb_glyph_info_t → hb_glyph_info_t
+recategorized g = if is_nonspacing g then with_class (fallback_class g.glyph_id (kept_class g)) g else g

@@ -1,12 +1,12 @@
 //! Marks in a font that does not position them: each is put over or under its base by the bounds of both and by the combining
 //! class of the mark (HarfBuzz's `_hb_ot_shape_fallback_mark_position`; Unicode Standard, "Combining Classes").
 
-ghost use Rattle.std.specs.Prelude.{◌≡◌, false, IsSome};
+ghost use Rattle.std.specs.Prelude.{◌≡◌, false, IsSome, map};
 ghost use Rattle.std.specs.List.{prefix_len};
 ghost use Rattle.script_items.specs.Marks.{is_mark};
 ghost use Rattle.shaping_buffer.specs.ClusterStep as step;
-ghost use Rattle.shaping_buffer.specs.Clusters.{clusters};
-ghost use Rattle.ot_positions.specs.FallbackMarks.{fallback_class, placed_by_character, class_of_character, is_thai_above, is_lao_above};
+ghost use Rattle.ot_positions.specs.FallbackMarks.{fallback_class, recategorized};
+ghost use Rattle.ot_positions.specs.FallbackMarks.{placed_by_character, class_of_character, is_thai_above, is_lao_above};
 ghost use Rattle.ot_positions.specs.FallbackMarks.{placed_by_class, placed_at_a_side, is_ordered_below, is_ordered_above, within};
 ghost use Rattle.shaping_buffer.specs.KeepsClusters.{KeepsClusters};
 
@@ -25,6 +25,7 @@ use std::alloc::AllocError;
 /// items are still characters. Requires that no output is open.
 pub fn recategorize_marks(buffer: &mut hb_buffer_t)
     requires { buffer.old.have_output ≡ false }
+    ensures is { buffer.new ≡ record buffer.old { input = map recategorized buffer.old.input } }
     ensures closed { buffer.new.have_output ≡ false }
     ensures keeps { KeepsClusters buffer.old buffer.new }
 {
@@ -32,18 +33,18 @@ pub fn recategorize_marks(buffer: &mut hb_buffer_t)
 }
 
 /// Says of each of the marks without width where it stands.
-#[tactic(auto, using(shaping_buffer::proofs::ClosedKeepsLemmas::clusters_written))]
+#[tactic(auto, using(glyph_lists::proofs::MapLemmas::walks))]
 fn recategorize_all(infos: &mut [hb_glyph_info_t])
-    ensures { clusters infos.new ≡ clusters infos.old }
+    ensures { infos.new ≡ map recategorized infos.old }
 {
-    for i in 0..infos.len() {
-        recategorize(&mut infos[i]);
+    for info in infos.iter_mut() {
+        recategorize(info);
     }
 }
 
 /// Says of a mark without width where it stands.
 fn recategorize(info: &mut hb_glyph_info_t)
-    ensures { info.new.cluster ≡ info.old.cluster }
+    ensures { info.new ≡ recategorized info.old }
 {
     if is_nonspacing_mark(info) {
         let class = fallback_class(info.glyph_id, modified_combining_class(info));

@@ -49,7 +49,7 @@ pub fn position_glyphs<F: FontFunctions>(
 }
 
 /// Whether the line is horizontal.
-fn is_horizontal_line(buffer: &hb_buffer_t) -> bool
+pub(crate) fn is_horizontal_line(buffer: &hb_buffer_t) -> bool
     ensures { result ≡ is_horizontal buffer.now.direction }
 {
     buffer.direction.is_horizontal()

@@ -1,21 +1,27 @@
 //! Glyphs that stand closer or farther apart at a size, by Apple's table `trak`: HarfBuzz's `hb_aat_layout_track`.
 
-ghost use Rattle.std.specs.Prelude.{◌≡◌, false, IsSome};
+ghost use Rattle.std.specs.Prelude.{◌≡◌, ◌<◌, false, IsSome, length, slice_index_or};
+ghost use Rattle.glyph_lists.specs.Clusters.{zero_glyph};
+ghost use Rattle.ot_positions.specs.ChangedAt.{changed_at, position_changed};
+ghost use Rattle.ot_positions.specs.Tracking as tracking;
+ghost use Rattle.ot_positions.specs.Tracking.{begun, is_tracked, moved_apart, space_of};
 ghost use Rattle.shaping_buffer.specs.KeepsClusters.{KeepsClusters};
 
+use crate::positions::is_horizontal_line;
 use aat_tables::tracking::Tracking;
 use font_face::Face;
 use script_items::glyph_info::is_continuation;
-use shaping_buffer::{GlyphPosition, hb_buffer_t};
+use shaping_buffer::{GlyphPosition, hb_buffer_t, hb_glyph_info_t};
 
 /// How far glyphs are moved apart, in the direction of the line.
 #[derive(Clone, Copy)]
-struct Space {
-    is_horizontal: bool,
+pub(crate) struct Space {
+    /// Whether the line is horizontal.
+    pub is_horizontal: bool,
     /// How much is added to the advance.
-    advance: i32,
+    pub advance: i32,
     /// How far the glyph itself is moved.
-    offset: i32,
+    pub offset: i32,
 }
 
 /// Moves graphemes apart that have a bit of the mask, as far as the font says it for its size in points. Requires positions, and that no
@@ -24,26 +30,31 @@ struct Space {
 pub fn track(buffer: &mut hb_buffer_t, face: &Face, mask: u32)
     requires closed { buffer.old.have_output ≡ false }
     requires placed { IsSome buffer.old.positions }
+    ensures is { buffer.new ≡ tracking.track face.now mask buffer.old }
     ensures closed { buffer.new.have_output ≡ false }
     ensures placed { IsSome buffer.new.positions }
     ensures keeps { KeepsClusters buffer.old buffer.new }
 {
-    if mask == 0 || !(face.points_per_em > 0.0) {
+    if is_idle(face, mask) {
         return;
     }
-    let space = space_of(face, buffer.direction.is_horizontal());
-    for i in 0..buffer.len() {
-        if let Some(info) = buffer.info().get(i)
-            && info.mask & mask != 0
-            && (i == 0 || !is_continuation(info))
-        {
-            move_apart_at(buffer, i, &space);
-        }
-    }
+    let space = space_of(face, is_horizontal_line(buffer));
+    move_all_apart(buffer, &space, mask);
+}
+
+/// Whether no glyph is moved: there is no mask, or the font has no size in points.
+#[tactic(auto, unfolding(crate::specs::Tracking::is_idle))]
+fn is_idle(face: &Face, mask: u32) -> bool
+    ensures { result ≡ tracking.is_idle mask face.now }
+{
+    mask == 0 || !(0.0 < face.points_per_em)
 }
 
 /// How far glyphs are moved apart in a font at its size.
-fn space_of(face: &Face, is_horizontal: bool) -> Space {
+#[tactic(auto, unfolding(crate::specs::Tracking::space_of))]
+fn space_of(face: &Face, is_horizontal: bool) -> Space
+    ensures { result ≡ space_of face.now is_horizontal }
+{
     let tracking = Tracking::new(face.layout.trak);
     let units = tracking.at(is_horizontal, face.points_per_em);
     let size = if is_horizontal {
@@ -58,22 +69,61 @@ fn space_of(face: &Face, is_horizontal: bool) -> Space {
     }
 }
 
-/// Moves the glyph at a place.
-#[tactic(auto, using(shaping_buffer::proofs::ClosedKeepsLemmas::kept))]
-fn move_apart_at(buffer: &mut hb_buffer_t, place: usize, space: &Space)
+/// Moves the glyphs that begin a grapheme, and have a bit of the mask.
+#[tactic(auto, using(crate::proofs::TrackingLemmas::walks))]
+fn move_all_apart(buffer: &mut hb_buffer_t, space: &Space, mask: u32)
     requires closed { buffer.old.have_output ≡ false }
     requires placed { IsSome buffer.old.positions }
+    ensures is { buffer.new ≡ tracking.tracked mask space.now buffer.old }
     ensures closed { buffer.new.have_output ≡ false }
     ensures placed { IsSome buffer.new.positions }
     ensures keeps { KeepsClusters buffer.old buffer.new }
 {
-    if let Some(position) = buffer.pos_mut().get_mut(place) {
-        move_apart(position, space);
+    for i in 0..buffer.len() {
+        if is_tracked(buffer.info(), i, mask) {
+            move_apart_at(buffer, i, space);
+        }
+    }
+}
+
+/// Whether the glyph at a place begins a grapheme, and has a bit of the mask.
+#[inline]
+#[tactic(auto, using(crate::proofs::TrackingLemmas::places))]
+fn is_tracked(infos: &[hb_glyph_info_t], place: usize, mask: u32) -> bool
+    requires { place < length infos.now }
+    ensures { result ≡ is_tracked mask (slice_index_or (begun infos.now) place zero_glyph) }
+{
+    let info = &infos[place];
+    info.mask & mask != 0 && (place == 0 || !is_continuation(info))
+}
+
+/// Moves the glyph at a place.
+#[inline]
+#[tactic(auto, using(crate::proofs::WidthsLemmas::written))]
+fn move_apart_at(buffer: &mut hb_buffer_t, place: usize, space: &Space)
+    requires closed { buffer.old.have_output ≡ false }
+    requires placed { IsSome buffer.old.positions }
+    ensures is { buffer.new ≡ position_changed (moved_apart space.now) place buffer.old }
+    ensures placed { IsSome buffer.new.positions }
+{
+    move_in(buffer.pos_mut(), place, space);
+}
+
+/// Moves the glyph at a place of these positions.
+#[inline]
+fn move_in(positions: &mut [GlyphPosition], place: usize, space: &Space)
+    ensures { positions.new ≡ changed_at (moved_apart space.now) place positions.old }
+{
+    if place < positions.len() {
+        move_apart(&mut positions[place], space);
     }
 }
 
 /// Moves a glyph.
-fn move_apart(position: &mut GlyphPosition, space: &Space) {
+#[tactic(auto, unfolding(crate::specs::Tracking::moved_apart))]
+fn move_apart(position: &mut GlyphPosition, space: &Space)
+    ensures { position.new ≡ moved_apart space.now position.old }
+{
     if space.is_horizontal {
         position.x_advance = position.x_advance.wrapping_add(space.advance);
         position.x_offset = position.x_offset.wrapping_add(space.offset);

@@ -3,12 +3,16 @@
 //! character of that category: of a mark the class that it is reordered by, of a space its kind.
 
 ghost use Rattle.std.specs.Prelude.{◌≡◌};
+ghost use Rattle.std.specs.Char.{IsScalar};
+ghost use Rattle.rb_glyph.specs.Fields.{with_field};
+ghost use Rattle.rb_glyph.specs.UnicodeProps.{props_word, props_scratch};
 ghost use Rattle.script_items.specs.Graphemes.{is_continuation};
 ghost use Rattle.script_items.specs.Marks as marks;
+ghost use Rattle.script_items.specs.Properties as properties;
 ghost use Rattle.script_items.specs.Spaces as spaces;
 ghost use Rattle.script_items.specs.Selectors as selectors;
 
-use crate::item::{general_category, set_modified_combining_class};
+use crate::item::general_category;
 use shaping_buffer::rb_glyph::hb_gc::{
     RB_UNICODE_GENERAL_CATEGORY_FORMAT, RB_UNICODE_GENERAL_CATEGORY_NON_SPACING_MARK,
     RB_UNICODE_GENERAL_CATEGORY_SPACE_SEPARATOR,
@@ -28,40 +32,49 @@ fn set_general_category(info: &mut hb_glyph_info_t, category: u16)
 }
 
 /// Sets the properties of a character that is not shaped yet, and adds what is to be remembered of the text to its scratch flags:
-/// whether it has characters past ASCII, ones that are invisible by default, and grapheme joiners. Nothing is set where the number is
-/// that of no character.
+/// whether it has characters past ASCII, ones that are invisible by default, and grapheme joiners. A number that is no character has
+/// no properties.
 #[inline]
 pub fn set_unicode_props(info: &mut hb_glyph_info_t, scratch_flags: &mut u32)
+    ensures is { info.new ≡ properties.with_properties info.old }
+    ensures remembered { scratch_flags.new ≡ properties.remembered info.old.glyph_id scratch_flags.old }
     ensures only { info.new ≡ record info.old { var2 = info.new.var2 } }
     ensures cluster { info.new.cluster ≡ info.old.cluster }
 {
-    let Some(character) = char::from_u32(info.glyph_id) else {
-        return;
-    };
-    let row = [(character, combining_class(character))];
-    if let Some(classes) = CombiningClasses::new(&row) {
-        info.init_unicode_props(scratch_flags, &classes);
-    }
-    set_telugu_class(info);
-}
-
-/// The canonical combining class of a character. The first that has one is U+0300.
-fn combining_class(character: char) -> u8 {
-    if character < '\u{300}' {
-        0
-    } else {
-        canonical_combining_class(character)
+    match char::from_u32(info.glyph_id) {
+        Some(character) => set_character_props(info, character, scratch_flags),
+        None => info.set_unicode_props(0),
     }
 }
 
-/// Gives the Telugu length marks the classes that HarfBuzz reorders them by: they come before a halant.
-fn set_telugu_class(info: &mut hb_glyph_info_t)
-    ensures { info.new ≡ record info.old { var2 = info.new.var2 } }
+/// Sets the properties of an item that is this character.
+fn set_character_props(info: &mut hb_glyph_info_t, character: char, scratch_flags: &mut u32)
+    requires scalar { IsScalar info.old.glyph_id }
+    requires same { character ≡ info.old.glyph_id }
+    ensures is { info.new ≡ record info.old {
+      var2 = with_field info.old.var2 0 16 (props_word info.old.glyph_id (properties.class_row info.old.glyph_id));
+    } }
+    ensures remembered { scratch_flags.new ≡ props_scratch info.old.glyph_id scratch_flags.old }
 {
-    match info.glyph_id {
-        0xC55 => set_modified_combining_class(info, 4),
-        0xC56 => set_modified_combining_class(info, 5),
-        _ => {}
+    let class = combining_class(character);
+    match CombiningClasses::new(&[(character, class)]) {
+        Some(classes) => info.init_unicode_props(scratch_flags, &classes),
+        None => {}
+    }
+}
+
+/// The combining class of a character. The first that has one is U+0300. The Telugu length marks come before a halant.
+#[tactic(auto, using(crate::proofs::PropertiesLemmas::classes))]
+fn combining_class(character: char) -> u8
+    ensures { result ≡ properties.class_of character }
+{
+    if character < '\u{300}' {
+        return 0;
+    }
+    match character {
+        '\u{C55}' => 4,
+        '\u{C56}' => 5,
+        _ => canonical_combining_class(character),
     }
 }
 

@@ -12,9 +12,9 @@ pub returns-clause-inserts : goal.returns-clause-inserts
 returns-clause-inserts c =
     let s = c.args.buffer.now in
     let circle = c.circle_before-circle.result in
-    let made = c.circle_before-circle.ensures.is in
-    let is : circle ≡ circle_before made.0 (head_of s) =
-    made.1 ∙ ap (λ (l : List hb_glyph_info_t). circle_before made.0 (slice_index_or l 0 zero_glyph)) c.info.ensures in
-    has_circle s c.put_circle.new.buffer c.sync.new.self made.0 circle c.sync.result is
+    let is : circle ≡ circle_before (head_of s) =
+    c.circle_before-circle.ensures.is
+    ∙ ap (λ (l : List hb_glyph_info_t). circle_before (slice_index_or l 0 zero_glyph)) c.info.ensures in
+    has_circle s c.put_circle.new.buffer c.sync.new.self circle c.sync.result is
     (c.in_ok-put_circle.ensures.meets.1 ∙ ap (λ (t : State). (output_info circle t).state) c.clear_output.ensures.is)
     c.sync.ensures.meets

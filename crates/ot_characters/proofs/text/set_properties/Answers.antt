@@ -1,14 +1,10 @@
-use Rattle.std.proofs.Common.{sym, ap, subst}
+use Rattle.std.proofs.Common.{ℕ, ap, ◌∙◌}
 use Rattle.shaping_buffer.specs.State.{State}
-use Rattle.ot_characters.specs.Properties.{SetsProperties}
+use Rattle.ot_characters.specs.Properties.{set_properties}
 use Rattle.ot_characters.proofs.text.set_properties.Goals as goal
 
-pub returns-clause-sets : goal.returns-clause-sets
-returns-clause-sets c =
-    let s = c.args.buffer.now in
-    let flags = c.set_all_in-scratch_flags.result in
-    subst (SetsProperties s) (sym c.remember.ensures.is)
-    (record {
-      alike = c.set_all_in-scratch_flags.ensures.alike;
-      others = ap (λ (t : State). record t { scratch_flags = flags }) c.set_all_in-scratch_flags.ensures.others;
-    })
+pub returns-clause-is : goal.returns-clause-is
+returns-clause-is c =
+    c.remember.ensures.is
+    ∙ ap (λ (s : State). record s { scratch_flags = c.set_all_in-scratch_flags.result }) c.set_all_in-scratch_flags.ensures.is
+    ∙ ap (λ (flags : ℕ). record (set_properties c.args.buffer.now) { scratch_flags = flags }) c.set_all_in-scratch_flags.ensures.remembered

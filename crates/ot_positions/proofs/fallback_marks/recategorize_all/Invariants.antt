@@ -1,6 +1,7 @@
 use Rattle.std.proofs.Common.{◌≡◌}
-use Rattle.shaping_buffer.specs.Clusters.{clusters}
+use Rattle.glyph_lists.proofs.MapLemmas.{mapped}
+use Rattle.ot_positions.specs.FallbackMarks.{recategorized}
 use Rattle.ot_positions.proofs.fallback_marks.recategorize_all.Given as goal
 
-abbrev pub invariant-loop-i : goal.invariant-loop-i
-invariant-loop-i l = clusters l.infos ≡ clusters l.fn.infos
+abbrev pub invariant-loop-info : goal.invariant-loop-info
+invariant-loop-info l = l.infos ≡ mapped recategorized l.info-index l.fn.infos

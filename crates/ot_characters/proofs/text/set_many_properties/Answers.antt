@@ -1,0 +1,21 @@
+use Rattle.std.proofs.Common.{◌<◌, length, refl, arith}
+use Rattle.std.proofs.lemmas.Grind.{common_steps}
+use Rattle.ot_characters.proofs.PropertiesLemmas.{characters_more, met_none, remembered_more}
+use Rattle.ot_characters.proofs.text.set_many_properties.Goals as goal
+
+pub loop-i-init : goal.loop-i-init
+loop-i-init c = record { is = refl; remembered = refl; met = met_none c.args.scratch_flags.now }
+
+pub loop-i-preserved : goal.loop-i-preserved
+loop-i-preserved c =
+    let old = c.args.infos.now in
+    let now = c.loop-i.infos in
+    let in_old : c.loop-i.i < length old = grind (arith, common_steps) in
+    let in_now : c.loop-i.i < length now = grind (arith, common_steps) in
+    record {
+      is = characters_more c.loop-i.i old now c.join_grapheme.new.infos c.set_known_properties.new.info in_old in_now
+          c.loop-i.invariant.is c.set_known_properties.ensures.is c.join_grapheme.ensures;
+      remembered = remembered_more c.loop-i.i old now c.args.scratch_flags.now c.loop-i.scratch_flags c.set_known_properties.new.scratch_flags
+          in_old c.loop-i.invariant.is c.loop-i.invariant.remembered c.set_known_properties.ensures.remembered;
+      met = c.set_known_properties.ensures.met;
+    }
