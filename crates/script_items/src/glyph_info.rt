@@ -48,6 +48,7 @@ pub fn set_unicode_props(info: &mut hb_glyph_info_t, scratch_flags: &mut u32)
 }
 
 /// Sets the properties of an item that is this character.
+#[inline]
 fn set_character_props(info: &mut hb_glyph_info_t, character: char, scratch_flags: &mut u32)
     requires scalar { IsScalar info.old.glyph_id }
     requires same { character ≡ info.old.glyph_id }

@@ -26,6 +26,7 @@ const DOTTED_CIRCLE: u32 = 0x25CC;
 /// ```text
 /// ensures inserts { IfOk result (circles.InsertsCircle (F.has font.now) buffer.old buffer.new) }
 /// ensures closed { IfOk result (λ done. done ≡ true → buffer.new.have_output ≡ false) }
+/// ensures refusal { IsRefusal false result buffer.new }
 /// ensures keeps { KeepsClusters buffer.old buffer.new }
 /// ```
 #[inline]

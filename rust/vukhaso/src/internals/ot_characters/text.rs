@@ -31,7 +31,7 @@ const REMEMBERED: usize = 64;
 /// # Proved
 ///
 /// ```text
-/// ensures sets { properties.SetsProperties buffer.old buffer.new }
+/// ensures is { buffer.new ≡ properties.set_properties buffer.old }
 /// ensures closed { buffer.new.have_output ≡ false }
 /// ensures keeps { KeepsClusters buffer.old buffer.new }
 /// ```
@@ -70,10 +70,8 @@ fn set_all_properties(infos: &mut [hb_glyph_info_t], scratch_flags: &mut u32) {
         return set_many_properties(infos, scratch_flags);
     }
     for i in 0..infos.len() {
-        set_own_properties(&mut infos[i], scratch_flags);
-        if continues_grapheme(infos, i) {
-            go_on(&mut infos[i]);
-        }
+        set_unicode_props(&mut infos[i], scratch_flags);
+        join_grapheme(infos, i);
     }
 }
 
@@ -84,34 +82,43 @@ fn set_many_properties(infos: &mut [hb_glyph_info_t], scratch_flags: &mut u32) {
     // No character 0 was met: where it would be found stands another one.
     known[0] = (1, 0);
     for i in 0..infos.len() {
-        let character = infos[i].glyph_id;
-        let place = character as usize % REMEMBERED;
-        if known[place].0 == character {
-            set_known_properties(&mut infos[i], known[place].1);
-        } else {
-            set_own_properties(&mut infos[i], scratch_flags);
-            known[place] = (character, infos[i].unicode_props());
-        }
-        if continues_grapheme(infos, i) {
-            go_on(&mut infos[i]);
-        }
+        set_known_properties(&mut infos[i], &mut known, scratch_flags);
+        join_grapheme(infos, i);
     }
 }
 
-/// Sets the properties of a character.
+/// Sets the properties of a character, which may have been met before.
+///
+/// # Requires
+///
+/// - `AreMet known.old scratch_flags.old`
 #[inline(always)]
-fn set_own_properties(info: &mut hb_glyph_info_t, scratch_flags: &mut u32) {
-    set_unicode_props(info, scratch_flags);
+fn set_known_properties(
+    info: &mut hb_glyph_info_t,
+    known: &mut [(u32, u16); REMEMBERED],
+    scratch_flags: &mut u32,
+) {
+    let character = info.glyph_id;
+    let place = character as usize % REMEMBERED;
+    if known[place].0 == character {
+        info.set_unicode_props(known[place].1);
+    } else {
+        set_unicode_props(info, scratch_flags);
+        known[place] = (character, info.unicode_props());
+    }
 }
 
-/// Sets the properties of a character that was met before.
-fn set_known_properties(info: &mut hb_glyph_info_t, known: u16) {
-    info.set_unicode_props(known);
-}
-
-/// Says that a character goes on with the grapheme before it.
-fn go_on(info: &mut hb_glyph_info_t) {
-    set_continuation(info);
+/// Says of the character at a place whether it goes on with the grapheme before it.
+///
+/// # Requires
+///
+/// - `i < length infos.old`
+#[inline(always)]
+fn join_grapheme(infos: &mut [hb_glyph_info_t], i: usize) {
+    debug_assert!(i < infos.len());
+    if continues_grapheme(infos, i) {
+        set_continuation(&mut infos[i]);
+    }
 }
 
 /// Whether a character that is no mark goes on with the grapheme before it (Unicode Standard Annex 29):
@@ -125,16 +132,38 @@ fn go_on(info: &mut hb_glyph_info_t) {
 fn continues_grapheme(infos: &[hb_glyph_info_t], i: usize) -> bool {
     debug_assert!(i < infos.len());
     let info = &infos[i];
-    let before = if i > 0 { infos.get(i - 1) } else { None };
     match info.glyph_id {
         0..FIRST_PICTOGRAPHIC => false,
         0x1F3FB..=0x1F3FF => general_category(info) == RB_UNICODE_GENERAL_CATEGORY_MODIFIER_SYMBOL,
-        0x1F1E6..=0x1F1FF => {
-            before.is_some_and(|before| is_regional_indicator(before) && !is_continuation(before))
-        }
+        0x1F1E6..=0x1F1FF => is_behind_first_indicator(infos, i),
         0xFF9E..=0xFF9F | 0xE0020..=0xE007F => true,
-        _ => is_zwj(info) || before.is_some_and(|before| is_zwj(before)) && is_pictographic(info),
+        _ => is_zwj(info) || is_behind_zwj(infos, i) && is_pictographic(info),
     }
+}
+
+/// Whether the character before a place is the first of two regional indicators.
+///
+/// # Requires
+///
+/// - `i < length infos.now`
+fn is_behind_first_indicator(infos: &[hb_glyph_info_t], i: usize) -> bool {
+    debug_assert!(i < infos.len());
+    i > 0 && begins_flag(&infos[i - 1])
+}
+
+/// Whether the character is the first of two regional indicators.
+fn begins_flag(info: &hb_glyph_info_t) -> bool {
+    is_regional_indicator(info) && !is_continuation(info)
+}
+
+/// Whether the character before a place is the zero width joiner.
+///
+/// # Requires
+///
+/// - `i < length infos.now`
+fn is_behind_zwj(infos: &[hb_glyph_info_t], i: usize) -> bool {
+    debug_assert!(i < infos.len());
+    i > 0 && is_zwj(&infos[i - 1])
 }
 
 /// Whether emoji are made from the character.

@@ -26,6 +26,7 @@ use crate::script_items::glyph_info::{clear_variation_selector, is_variation_sel
 /// # Proved
 ///
 /// ```text
+/// ensures is { buffer.new ≡ ending.show_variation_selectors buffer.old }
 /// ensures closed { buffer.new.have_output ≡ false }
 /// ensures placed { IsSome buffer.new.positions }
 /// ensures keeps { KeepsClusters buffer.old buffer.new }
@@ -34,52 +35,84 @@ use crate::script_items::glyph_info::{clear_variation_selector, is_variation_sel
 pub fn show_variation_selectors(buffer: &mut hb_buffer_t) {
     debug_assert!(!buffer.have_output());
     debug_assert!(buffer.have_positions());
-    let Some(glyph) = buffer.not_found_variation_selector else {
-        return;
-    };
-    if buffer.scratch_flags & HB_BUFFER_SCRATCH_FLAG_HAS_VARIATION_SELECTOR_FALLBACK == 0 {
+    if !has_unknown_selectors(buffer) {
         return;
     }
+    match not_found_selector(buffer) {
+        Some(glyph) => show_selectors(buffer, glyph),
+        None => {}
+    }
+}
+
+/// Whether some character is a variation selector that the font does not know.
+fn has_unknown_selectors(buffer: &hb_buffer_t) -> bool {
+    buffer.scratch_flags & HB_BUFFER_SCRATCH_FLAG_HAS_VARIATION_SELECTOR_FALLBACK != 0
+}
+
+/// The glyph that the buffer has for such a selector.
+fn not_found_selector(buffer: &hb_buffer_t) -> Option<u32> {
+    buffer.not_found_variation_selector
+}
+
+/// Gives each of these selectors this glyph, without width.
+///
+/// # Requires
+///
+/// - `closed: buffer.old.have_output ≡ false`
+/// - `placed: IsSome buffer.old.positions`
+fn show_selectors(buffer: &mut hb_buffer_t, glyph: u32) {
+    debug_assert!(!buffer.have_output());
+    debug_assert!(buffer.have_positions());
+    narrow_selectors(buffer);
+    show_in(buffer, glyph);
+}
+
+/// Takes all width and every offset of these selectors.
+///
+/// # Requires
+///
+/// - `closed: buffer.old.have_output ≡ false`
+/// - `placed: IsSome buffer.old.positions`
+fn narrow_selectors(buffer: &mut hb_buffer_t) {
+    debug_assert!(!buffer.have_output());
+    debug_assert!(buffer.have_positions());
     for i in 0..buffer.len() {
-        show_without_width(buffer, i, glyph);
+        if is_selector(&buffer.info()[i]) {
+            take_width_at(buffer, i);
+        }
     }
 }
 
-/// Gives the item at a place this glyph, without width, if it is a variation selector that the font
-/// does not know.
+/// Whether the item is a variation selector that the font does not know.
+fn is_selector(info: &hb_glyph_info_t) -> bool {
+    is_variation_selector(info)
+}
+
+/// Gives these selectors of a buffer this glyph.
 ///
 /// # Requires
 ///
 /// - `closed: buffer.old.have_output ≡ false`
 /// - `placed: IsSome buffer.old.positions`
-fn show_without_width(buffer: &mut hb_buffer_t, place: usize, glyph: u32) {
+fn show_in(buffer: &mut hb_buffer_t, glyph: u32) {
     debug_assert!(!buffer.have_output());
     debug_assert!(buffer.have_positions());
-    if show_at(buffer, place, glyph) {
-        take_width_at(buffer, place);
+    show_all(buffer.info_slice_mut(), glyph);
+}
+
+/// Gives these selectors this glyph.
+fn show_all(infos: &mut [hb_glyph_info_t], glyph: u32) {
+    for info in infos.iter_mut() {
+        show(info, glyph);
     }
 }
 
-/// Gives the item at a place this glyph, if it is a variation selector that the font does not know.
-///
-/// # Requires
-///
-/// - `closed: buffer.old.have_output ≡ false`
-/// - `placed: IsSome buffer.old.positions`
-fn show_at(buffer: &mut hb_buffer_t, place: usize, glyph: u32) -> bool {
-    debug_assert!(!buffer.have_output());
-    debug_assert!(buffer.have_positions());
-    show_variation_selector(buffer.info_slice_mut(), place, glyph)
-}
-
-/// Gives the item at a place this glyph, if it is a variation selector that the font does not know.
-fn show_variation_selector(infos: &mut [hb_glyph_info_t], place: usize, glyph: u32) -> bool {
-    if place >= infos.len() || !is_variation_selector(&infos[place]) {
-        return false;
+/// Gives an item this glyph, if it is such a selector.
+fn show(info: &mut hb_glyph_info_t, glyph: u32) {
+    if is_selector(info) {
+        info.glyph_id = glyph;
+        clear_variation_selector(info);
     }
-    infos[place].glyph_id = glyph;
-    clear_variation_selector(&mut infos[place]);
-    true
 }
 
 /// Hides the glyphs of characters that are invisible by default: the font's space stands for them,
@@ -95,6 +128,7 @@ fn show_variation_selector(infos: &mut [hb_glyph_info_t], place: usize, glyph: u
 /// # Proved
 ///
 /// ```text
+/// ensures hides { ending.Hides (F.has font.now) buffer.old buffer.new }
 /// ensures closed { buffer.new.have_output ≡ false }
 /// ensures placed { IsSome buffer.new.positions }
 /// ensures keeps { KeepsClusters buffer.old buffer.new }
@@ -103,36 +137,44 @@ fn show_variation_selector(infos: &mut [hb_glyph_info_t], place: usize, glyph: u
 pub fn hide_ignorables<F: FontFunctions>(buffer: &mut hb_buffer_t, font: &F) {
     debug_assert!(!buffer.have_output());
     debug_assert!(buffer.have_positions());
-    if buffer.scratch_flags & HB_BUFFER_SCRATCH_FLAG_HAS_DEFAULT_IGNORABLES == 0 {
-        return;
+    if has_ignorables(buffer) {
+        let glyph = glyph_for_ignorables(font, invisible_of(buffer));
+        hide_by(buffer, glyph);
     }
-    let invisible = buffer.invisible;
-    let glyph = match invisible {
-        Some(glyph) => Some(glyph),
-        None => font.nominal_glyph(0x20),
-    };
-    set_invisible(buffer, glyph);
-    share_flags_of_removed(buffer);
-    hide_all(buffer);
-    set_invisible(buffer, invisible);
 }
 
-/// Shares the glyph flags of clusters where the glyphs that are not to be seen are taken out.
+/// Whether some characters are invisible by default.
+fn has_ignorables(buffer: &hb_buffer_t) -> bool {
+    buffer.scratch_flags & HB_BUFFER_SCRATCH_FLAG_HAS_DEFAULT_IGNORABLES != 0
+}
+
+/// The glyph that the buffer has for what is not to be seen.
+fn invisible_of(buffer: &hb_buffer_t) -> Option<GlyphId> {
+    buffer.invisible
+}
+
+/// The glyph that stands for what is not to be seen: this one, or else that of the font's space.
+fn glyph_for_ignorables<F: FontFunctions>(font: &F, invisible: Option<GlyphId>) -> Option<GlyphId> {
+    match invisible {
+        Some(glyph) => Some(glyph),
+        None => font.nominal_glyph(0x20),
+    }
+}
+
+/// Hides these glyphs by the one that stands for them.
 ///
 /// # Requires
 ///
 /// - `closed: buffer.old.have_output ≡ false`
 /// - `placed: IsSome buffer.old.positions`
-fn share_flags_of_removed(buffer: &mut hb_buffer_t) {
+fn hide_by(buffer: &mut hb_buffer_t, glyph: Option<GlyphId>) {
     debug_assert!(!buffer.have_output());
     debug_assert!(buffer.have_positions());
-    if buffer.invisible.is_none()
-        || buffer
-            .flags
-            .contains(BufferFlags::REMOVE_DEFAULT_IGNORABLES)
-    {
-        share_flags(buffer);
-    }
+    let invisible = invisible_of(buffer);
+    set_invisible(buffer, glyph);
+    share_flags_of_removed(buffer);
+    hide_all(buffer);
+    set_invisible(buffer, invisible);
 }
 
 /// Sets the glyph that stands for what is not to be seen.
@@ -145,6 +187,29 @@ fn set_invisible(buffer: &mut hb_buffer_t, glyph: Option<GlyphId>) {
     debug_assert!(!buffer.have_output());
     debug_assert!(buffer.have_positions());
     buffer.invisible = glyph;
+}
+
+/// Shares the glyph flags of clusters where the glyphs that are not to be seen are taken out.
+///
+/// # Requires
+///
+/// - `closed: buffer.old.have_output ≡ false`
+/// - `placed: IsSome buffer.old.positions`
+fn share_flags_of_removed(buffer: &mut hb_buffer_t) {
+    debug_assert!(!buffer.have_output());
+    debug_assert!(buffer.have_positions());
+    if are_removed(buffer) {
+        share_flags(buffer);
+    }
+}
+
+/// Whether the glyphs that are not to be seen are taken out: no glyph stands for them, or the buffer's
+/// flags say so.
+fn are_removed(buffer: &hb_buffer_t) -> bool {
+    buffer.invisible.is_none()
+        || buffer
+            .flags
+            .contains(BufferFlags::REMOVE_DEFAULT_IGNORABLES)
 }
 
 /// Hides these glyphs.

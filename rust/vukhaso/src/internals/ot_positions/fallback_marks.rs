@@ -28,6 +28,7 @@ use crate::script_items::item::{
 /// # Proved
 ///
 /// ```text
+/// ensures is { buffer.new ≡ record buffer.old { input = map recategorized buffer.old.input } }
 /// ensures closed { buffer.new.have_output ≡ false }
 /// ensures keeps { KeepsClusters buffer.old buffer.new }
 /// ```
@@ -39,8 +40,8 @@ pub fn recategorize_marks(buffer: &mut hb_buffer_t) {
 
 /// Says of each of the marks without width where it stands.
 fn recategorize_all(infos: &mut [hb_glyph_info_t]) {
-    for i in 0..infos.len() {
-        recategorize(&mut infos[i]);
+    for info in infos.iter_mut() {
+        recategorize(info);
     }
 }
 

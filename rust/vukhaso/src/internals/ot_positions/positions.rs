@@ -55,7 +55,7 @@ pub fn position_glyphs<F: FontFunctions>(
 }
 
 /// Whether the line is horizontal.
-fn is_horizontal_line(buffer: &hb_buffer_t) -> bool {
+pub(crate) fn is_horizontal_line(buffer: &hb_buffer_t) -> bool {
     buffer.direction.is_horizontal()
 }
 

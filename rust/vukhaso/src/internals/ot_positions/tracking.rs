@@ -3,18 +3,20 @@
 //! Glyphs that stand closer or farther apart at a size, by Apple's table `trak`: HarfBuzz's `hb_aat_layout_track`.
 
 use crate::aat_tables::tracking::Tracking;
-use crate::buffer::{GlyphPosition, hb_buffer_t};
+use crate::buffer::{GlyphPosition, hb_buffer_t, hb_glyph_info_t};
 use crate::font_face::Face;
+use crate::ot_positions::positions::is_horizontal_line;
 use crate::script_items::glyph_info::is_continuation;
 
 /// How far glyphs are moved apart, in the direction of the line.
 #[derive(Clone, Copy, Debug)]
-struct Space {
-    is_horizontal: bool,
+pub(crate) struct Space {
+    /// Whether the line is horizontal.
+    pub is_horizontal: bool,
     /// How much is added to the advance.
-    advance: i32,
+    pub advance: i32,
     /// How far the glyph itself is moved.
-    offset: i32,
+    pub offset: i32,
 }
 
 /// Moves graphemes apart that have a bit of the mask, as far as the font says it for its size in
@@ -30,6 +32,7 @@ struct Space {
 /// # Proved
 ///
 /// ```text
+/// ensures is { buffer.new ≡ tracking.track face.now mask buffer.old }
 /// ensures closed { buffer.new.have_output ≡ false }
 /// ensures placed { IsSome buffer.new.positions }
 /// ensures keeps { KeepsClusters buffer.old buffer.new }
@@ -38,17 +41,16 @@ struct Space {
 pub fn track(buffer: &mut hb_buffer_t, face: &Face, mask: u32) {
     debug_assert!(!buffer.have_output());
     debug_assert!(buffer.have_positions());
-    if mask == 0 || !(face.points_per_em > 0.0) {
+    if is_idle(face, mask) {
         return;
     }
-    let space = space_of(face, buffer.direction.is_horizontal());
-    for i in 0..buffer.len() {
-        if let Some(info) = buffer.info().get(i) {
-            if info.mask & mask != 0 && (i == 0 || !is_continuation(info)) {
-                move_apart_at(buffer, i, &space);
-            }
-        }
-    }
+    let space = space_of(face, is_horizontal_line(buffer));
+    move_all_apart(buffer, &space, mask);
+}
+
+/// Whether no glyph is moved: there is no mask, or the font has no size in points.
+fn is_idle(face: &Face, mask: u32) -> bool {
+    mask == 0 || !(0.0 < face.points_per_em)
 }
 
 /// How far glyphs are moved apart in a font at its size.
@@ -67,17 +69,52 @@ fn space_of(face: &Face, is_horizontal: bool) -> Space {
     }
 }
 
+/// Moves the glyphs that begin a grapheme, and have a bit of the mask.
+///
+/// # Requires
+///
+/// - `closed: buffer.old.have_output ≡ false`
+/// - `placed: IsSome buffer.old.positions`
+fn move_all_apart(buffer: &mut hb_buffer_t, space: &Space, mask: u32) {
+    debug_assert!(!buffer.have_output());
+    debug_assert!(buffer.have_positions());
+    for i in 0..buffer.len() {
+        if is_tracked(buffer.info(), i, mask) {
+            move_apart_at(buffer, i, space);
+        }
+    }
+}
+
+/// Whether the glyph at a place begins a grapheme, and has a bit of the mask.
+///
+/// # Requires
+///
+/// - `place < length infos.now`
+#[inline(always)]
+fn is_tracked(infos: &[hb_glyph_info_t], place: usize, mask: u32) -> bool {
+    debug_assert!(place < infos.len());
+    let info = &infos[place];
+    info.mask & mask != 0 && (place == 0 || !is_continuation(info))
+}
+
 /// Moves the glyph at a place.
 ///
 /// # Requires
 ///
 /// - `closed: buffer.old.have_output ≡ false`
 /// - `placed: IsSome buffer.old.positions`
+#[inline(always)]
 fn move_apart_at(buffer: &mut hb_buffer_t, place: usize, space: &Space) {
     debug_assert!(!buffer.have_output());
     debug_assert!(buffer.have_positions());
-    if let Some(position) = buffer.pos_mut().get_mut(place) {
-        move_apart(position, space);
+    move_in(buffer.pos_mut(), place, space);
+}
+
+/// Moves the glyph at a place of these positions.
+#[inline(always)]
+fn move_in(positions: &mut [GlyphPosition], place: usize, space: &Space) {
+    if place < positions.len() {
+        move_apart(&mut positions[place], space);
     }
 }
 

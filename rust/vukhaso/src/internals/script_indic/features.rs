@@ -48,7 +48,8 @@ const WITHIN_SYLLABLE: FeatureFlags = FeatureFlags {
 /// # Proved
 ///
 /// ```text
-/// ensures { IfOk result (λ _. builder.new.pauses.items ≡ builder.old.pauses.items ++ indic_pauses) }
+/// ensures pauses { IfOk result (λ _. builder.new.pauses.items ≡ builder.old.pauses.items ++ indic_pauses) }
+/// ensures asks { IfOk result (λ _. Asks indic_features builder.old builder.new) }
 /// ```
 #[inline]
 pub fn collect_features(builder: &mut PlanBuilder) -> Result<(), AllocError> {
@@ -58,7 +59,8 @@ pub fn collect_features(builder: &mut PlanBuilder) -> Result<(), AllocError> {
     builder.add_gsub_pause(Pause::InitialReordering)?;
     add_in_stages(builder, &BASIC_FEATURES, WITHIN_SYLLABLE)?;
     builder.add_gsub_pause(Pause::FinalReordering)?;
-    add_all(builder, &OTHER_FEATURES, WITHIN_SYLLABLE)
+    add_all(builder, &OTHER_FEATURES, WITHIN_SYLLABLE)?;
+    Ok(())
 }
 
 /// Turns standard ligatures off, behind the features of a user.
@@ -70,11 +72,13 @@ pub fn collect_features(builder: &mut PlanBuilder) -> Result<(), AllocError> {
 /// # Proved
 ///
 /// ```text
-/// ensures { HasSamePauses builder.old builder.new }
+/// ensures pauses { HasSamePauses builder.old builder.new }
+/// ensures asks { IfOk result (λ _. Asks indic_overrides builder.old builder.new) }
 /// ```
 #[inline]
 pub fn override_features(builder: &mut PlanBuilder) -> Result<(), AllocError> {
-    builder.disable_feature(Tag::from_bytes(b"liga"))
+    builder.disable_feature(Tag::from_bytes(b"liga"))?;
+    Ok(())
 }
 
 /// The plan for a script and the features of a font.

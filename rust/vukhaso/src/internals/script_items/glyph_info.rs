@@ -10,7 +10,7 @@ use crate::glyph::hb_gc::{
     RB_UNICODE_GENERAL_CATEGORY_SPACE_SEPARATOR,
 };
 use crate::glyph::space_t;
-use crate::script_items::item::{general_category, set_modified_combining_class};
+use crate::script_items::item::general_category;
 use crate::ucd_normal::canonical_combining_class;
 
 /// The flags in the low byte of the properties, above the general category.
@@ -23,41 +23,51 @@ fn set_general_category(info: &mut hb_glyph_info_t, category: u16) {
 
 /// Sets the properties of a character that is not shaped yet, and adds what is to be remembered of the
 /// text to its scratch flags: whether it has characters past ASCII, ones that are invisible by default,
-/// and grapheme joiners. Nothing is set where the number is that of no character.
+/// and grapheme joiners. A number that is no character has no properties.
 ///
 /// # Proved
 ///
 /// ```text
+/// ensures is { info.new ≡ properties.with_properties info.old }
+/// ensures remembered { scratch_flags.new ≡ properties.remembered info.old.glyph_id scratch_flags.old }
 /// ensures only { info.new ≡ record info.old { var2 = info.new.var2 } }
 /// ensures cluster { info.new.cluster ≡ info.old.cluster }
 /// ```
 #[inline(always)]
 pub fn set_unicode_props(info: &mut hb_glyph_info_t, scratch_flags: &mut u32) {
-    let Some(character) = char::from_u32(info.glyph_id) else {
-        return;
-    };
-    let row = [(character, combining_class(character))];
-    if let Some(classes) = CombiningClasses::new(&row) {
-        info.init_unicode_props(scratch_flags, &classes);
+    match char::from_u32(info.glyph_id) {
+        Some(character) => set_character_props(info, character, scratch_flags),
+        None => info.set_unicode_props(0),
     }
-    set_telugu_class(info);
 }
 
-/// The canonical combining class of a character. The first that has one is U+0300.
+/// Sets the properties of an item that is this character.
+///
+/// # Requires
+///
+/// - `scalar: IsScalar info.old.glyph_id`
+/// - `same: character ≡ info.old.glyph_id`
+#[inline(always)]
+fn set_character_props(info: &mut hb_glyph_info_t, character: char, scratch_flags: &mut u32) {
+    debug_assert!(char::from_u32(info.glyph_id).is_some());
+    debug_assert!(u32::from(character) == info.glyph_id);
+    let class = combining_class(character);
+    match CombiningClasses::new(&[(character, class)]) {
+        Some(classes) => info.init_unicode_props(scratch_flags, &classes),
+        None => {}
+    }
+}
+
+/// The combining class of a character. The first that has one is U+0300. The Telugu length marks come
+/// before a halant.
 fn combining_class(character: char) -> u8 {
     if character < '\u{300}' {
-        0
-    } else {
-        canonical_combining_class(character)
+        return 0;
     }
-}
-
-/// Gives the Telugu length marks the classes that HarfBuzz reorders them by: they come before a halant.
-fn set_telugu_class(info: &mut hb_glyph_info_t) {
-    match info.glyph_id {
-        0xC55 => set_modified_combining_class(info, 4),
-        0xC56 => set_modified_combining_class(info, 5),
-        _ => {}
+    match character {
+        '\u{C55}' => 4,
+        '\u{C56}' => 5,
+        _ => canonical_combining_class(character),
     }
 }
 

@@ -29,6 +29,7 @@ use crate::script_syllables::vowel_sequences::third_vowel;
 ///
 /// ```text
 /// ensures closed { IfOk result (λ done. done ≡ true → buffer.new.have_output ≡ false) }
+/// ensures refusal { IsRefusal false result buffer.new }
 /// ensures keeps { KeepsClusters buffer.old buffer.new }
 /// ```
 #[inline]
@@ -79,7 +80,8 @@ fn read_next(buffer: &mut hb_buffer_t) -> Result<bool, AllocError> {
         return buffer.next_glyph();
     };
     keep_sequence(buffer, count);
-    if count == 0 || count > buffer.lookahead_len() || !buffer.next_glyphs(count - 1)? {
+    let before = count.saturating_sub(1).min(buffer.lookahead_len());
+    if !buffer.next_glyphs(before)? {
         return Ok(false);
     }
     if !buffer.output_glyph(DOTTED_CIRCLE)? {

@@ -93,6 +93,7 @@ fn component(info: &hb_glyph_info_t) -> u8 {
 /// ```text
 /// ensures closed { IfOk result (λ done. done ≡ true → buffer.new.have_output ≡ false) }
 /// ensures placed { IfOk result (λ done. done ≡ true → IsSome buffer.new.positions) }
+/// ensures refusal { IsRefusal false result buffer.new }
 /// ensures keeps { KeepsClusters buffer.old buffer.new }
 /// ```
 #[inline]
@@ -102,14 +103,28 @@ pub fn stretch<F: FontGlyphs>(buffer: &mut hb_buffer_t, font: &F) -> Result<bool
     if buffer.scratch_flags & HB_BUFFER_SCRATCH_FLAG_SHAPER0 == 0 {
         return Ok(true);
     }
-    let stretched = if buffer.direction == Direction::RightToLeft {
+    match stretched_line(buffer, font)? {
+        Some(stretched) => stretched.put_into(buffer),
+        None => Ok(false),
+    }
+}
+
+/// What a text becomes, whichever way its line runs; `None` where it would become too long.
+///
+/// # Requires
+///
+/// - `closed: buffer.old.have_output ≡ false`
+/// - `placed: IsSome buffer.old.positions`
+fn stretched_line<F: FontGlyphs>(
+    buffer: &mut hb_buffer_t,
+    font: &F,
+) -> Result<Option<Stretched>, AllocError> {
+    debug_assert!(!buffer.have_output());
+    debug_assert!(buffer.have_positions());
+    if buffer.direction == Direction::RightToLeft {
         stretched_text(buffer, font, true)
     } else {
         stretched_backwards(buffer, font)
-    };
-    match stretched? {
-        Some(stretched) => stretched.put_into(buffer),
-        None => Ok(false),
     }
 }
 
@@ -363,20 +378,20 @@ fn repeat_glyphs(buffer: &mut hb_buffer_t, counts: &[usize]) -> Result<bool, All
     buffer.sync()
 }
 
-/// Puts the current glyph out so often, and reads it.
+/// Puts the current glyph out so often, and reads it, if there is one.
 ///
 /// # Requires
 ///
 /// - `buffer.old.have_output ≡ true`
 fn repeat_glyph(buffer: &mut hb_buffer_t, count: usize) -> Result<bool, AllocError> {
     debug_assert!(buffer.have_output());
-    for _turn in 1..count {
-        if buffer.lookahead_len() == 0 || !buffer.copy_glyph()? {
-            return Ok(false);
-        }
-    }
     if buffer.lookahead_len() == 0 {
         return Ok(true);
+    }
+    for _turn in 1..count {
+        if !buffer.copy_glyph()? {
+            return Ok(false);
+        }
     }
     buffer.next_glyph()
 }

@@ -33,6 +33,7 @@ pub(crate) struct Syllable {
 ///
 /// ```text
 /// ensures closed { IfOk result (λ done. done ≡ true → buffer.new.have_output ≡ false) }
+/// ensures refusal { IsRefusal false result buffer.new }
 /// ensures keeps { KeepsClusters buffer.old buffer.new }
 /// ```
 #[inline]
@@ -98,7 +99,10 @@ fn read_syllable<F: FontGlyphs>(
     let step = next_step(font, first, second, third);
     flag_unsafe(buffer, unsafe_length(step, first, second, third));
     let start = buffer.out_len();
-    if buffer.lookahead_len() == 0 || !take_step(buffer, step)? {
+    if buffer.lookahead_len() == 0 {
+        return Ok(Some(Syllable { start, end: start }));
+    }
+    if !take_step(buffer, step)? {
         return Ok(None);
     }
     let end = match step {
@@ -145,10 +149,18 @@ fn take_step(buffer: &mut hb_buffer_t, step: Step) -> Result<bool, AllocError> {
             buffer.replace_glyphs(count, 1, &[syllable])
         }
         Step::Jamo(count) if count <= buffer.lookahead_len() => {
-            Ok(buffer.next_glyphs(count)? && end_jamo(buffer, start))
+            if !buffer.next_glyphs(count)? {
+                return Ok(false);
+            }
+            end_jamo(buffer, start);
+            Ok(true)
         }
         Step::Decompose(jamo, takes_next) => {
-            Ok(put_jamo(buffer, jamo, takes_next)? && end_jamo(buffer, start))
+            if !put_jamo(buffer, jamo, takes_next)? {
+                return Ok(false);
+            }
+            end_jamo(buffer, start);
+            Ok(true)
         }
         _ => buffer.next_glyph(),
     }
@@ -184,14 +196,13 @@ fn put_jamo(
 /// # Requires
 ///
 /// - `buffer.old.have_output ≡ true`
-fn end_jamo(buffer: &mut hb_buffer_t, start: usize) -> bool {
+fn end_jamo(buffer: &mut hb_buffer_t, start: usize) {
     debug_assert!(buffer.have_output());
     number_jamo(buffer, start);
     let end = buffer.out_len();
     if buffer.cluster_level == HB_BUFFER_CLUSTER_LEVEL_MONOTONE_GRAPHEMES && start <= end {
         buffer.merge_out_clusters(start, end);
     }
-    true
 }
 
 /// Lets the jamo from a place on keep 1, 2 and 3.

@@ -61,7 +61,10 @@ fn read_after_syllable(
     debug_assert!(!buffer.info().is_empty());
     let read = buffer.idx();
     buffer.unsafe_to_break_from_outbuffer(Some(last.start), Some(read));
-    if buffer.lookahead_len() == 0 || !buffer.next_glyph()? {
+    if buffer.lookahead_len() == 0 {
+        return Ok(true);
+    }
+    if !buffer.next_glyph()? {
         return Ok(false);
     }
     let end = buffer.out_len();

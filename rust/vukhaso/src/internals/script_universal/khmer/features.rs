@@ -28,7 +28,8 @@ const BASIC_FEATURES: [(&[u8; 4], bool); 5] = [
 /// # Proved
 ///
 /// ```text
-/// ensures { IfOk result (λ _. builder.new.pauses.items ≡ builder.old.pauses.items ++ khmer_pauses) }
+/// ensures pauses { IfOk result (λ _. builder.new.pauses.items ≡ builder.old.pauses.items ++ khmer_pauses) }
+/// ensures asks { IfOk result (λ _. Asks khmer_features builder.old builder.new) }
 /// ```
 #[inline]
 pub fn collect_features(builder: &mut PlanBuilder) -> Result<(), AllocError> {
@@ -42,7 +43,8 @@ pub fn collect_features(builder: &mut PlanBuilder) -> Result<(), AllocError> {
     };
     add_all(builder, &BASIC_FEATURES, flags)?;
     builder.add_gsub_pause(Pause::Nothing)?;
-    add_all(builder, &PRESENTATION_FEATURES, MANUAL_JOINERS)
+    add_all(builder, &PRESENTATION_FEATURES, MANUAL_JOINERS)?;
+    Ok(())
 }
 
 /// Asks for contextual ligatures, which Khmer requires, and turns standard ligatures off.
@@ -54,12 +56,14 @@ pub fn collect_features(builder: &mut PlanBuilder) -> Result<(), AllocError> {
 /// # Proved
 ///
 /// ```text
-/// ensures { HasSamePauses builder.old builder.new }
+/// ensures pauses { HasSamePauses builder.old builder.new }
+/// ensures asks { IfOk result (λ _. Asks khmer_overrides builder.old builder.new) }
 /// ```
 #[inline]
 pub fn override_features(builder: &mut PlanBuilder) -> Result<(), AllocError> {
     builder.enable_feature(Tag::from_bytes(b"clig"), FeatureFlags::NONE)?;
-    builder.disable_feature(Tag::from_bytes(b"liga"))
+    builder.disable_feature(Tag::from_bytes(b"liga"))?;
+    Ok(())
 }
 
 /// The plan for the features of a font.

@@ -26,7 +26,8 @@ const BASIC_FEATURES: [(&[u8; 4], bool); 4] = [
 /// # Proved
 ///
 /// ```text
-/// ensures { IfOk result (λ _. builder.new.pauses.items ≡ builder.old.pauses.items ++ myanmar_pauses) }
+/// ensures pauses { IfOk result (λ _. builder.new.pauses.items ≡ builder.old.pauses.items ++ myanmar_pauses) }
+/// ensures asks { IfOk result (λ _. Asks myanmar_features builder.old builder.new) }
 /// ```
 #[inline]
 pub fn collect_features(builder: &mut PlanBuilder) -> Result<(), AllocError> {
@@ -40,5 +41,6 @@ pub fn collect_features(builder: &mut PlanBuilder) -> Result<(), AllocError> {
     };
     add_in_stages(builder, &BASIC_FEATURES, flags)?;
     builder.add_gsub_pause(Pause::Nothing)?;
-    add_all(builder, &PRESENTATION_FEATURES, MANUAL_JOINER)
+    add_all(builder, &PRESENTATION_FEATURES, MANUAL_JOINER)?;
+    Ok(())
 }

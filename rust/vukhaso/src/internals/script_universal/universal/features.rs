@@ -55,14 +55,16 @@ const WITHIN_SYLLABLE: FeatureFlags = FeatureFlags {
 /// # Proved
 ///
 /// ```text
-/// ensures { IfOk result (λ _. builder.new.pauses.items ≡ builder.old.pauses.items ++ universal_pauses) }
+/// ensures pauses { IfOk result (λ _. builder.new.pauses.items ≡ builder.old.pauses.items ++ universal_pauses) }
+/// ensures asks { IfOk result (λ _. Asks universal_features builder.old builder.new) }
 /// ```
 #[inline]
 pub fn collect_features(builder: &mut PlanBuilder) -> Result<(), AllocError> {
     add_basic_features(builder)?;
     add_all(builder, &FORM_FEATURES, FeatureFlags::NONE)?;
     builder.add_gsub_pause(Pause::Nothing)?;
-    add_all(builder, &OTHER_FEATURES, MANUAL_JOINER)
+    add_all(builder, &OTHER_FEATURES, MANUAL_JOINER)?;
+    Ok(())
 }
 
 /// Asks for the features of syllables.
@@ -73,7 +75,8 @@ fn add_basic_features(builder: &mut PlanBuilder) -> Result<(), AllocError> {
     add_recorded_features(builder)?;
     add_all(builder, &BASIC_FEATURES, WITHIN_SYLLABLE)?;
     builder.add_gsub_pause(Pause::InitialReordering)?;
-    builder.add_gsub_pause(Pause::Nothing)
+    builder.add_gsub_pause(Pause::Nothing)?;
+    Ok(())
 }
 
 /// Asks for the features of which it is noted where they have made a glyph.
@@ -83,7 +86,8 @@ fn add_recorded_features(builder: &mut PlanBuilder) -> Result<(), AllocError> {
     builder.add_gsub_pause(Pause::RecordRphf)?;
     builder.add_gsub_pause(Pause::ClearSubstitutionFlags)?;
     builder.enable_feature(Tag::from_bytes(b"pref"), WITHIN_SYLLABLE)?;
-    builder.add_gsub_pause(Pause::RecordPref)
+    builder.add_gsub_pause(Pause::RecordPref)?;
+    Ok(())
 }
 
 /// The plan for the features of a font. `joins` says whether the letters of the script join by
