@@ -4,6 +4,7 @@ ghost use Rattle.std.specs.Prelude.{◌≡◌, true, false, IfOk};
 ghost use Rattle.shaping_buffer.specs.KeepsClusters.{KeepsClusters};
 ghost use Rattle.aat_substitution.specs.Left.{IsLeftAs, IsLeftOpen};
 ghost use Rattle.ot_layout.specs.Budget.{IsNotMore};
+ghost use Rattle.shaping_passes.specs.Refusals.{IsRefusal};
 
 use crate::contextual::Contextual;
 use crate::insertion::Insertion;
@@ -72,6 +73,7 @@ impl<'a> Action<'a> {
     ) -> Result<bool, AllocError>
         ensures left { IsLeftAs buffer.old result buffer.new }
         ensures spent { IsNotMore work.old.budget work.new.budget }
+        ensures refusal { IsRefusal false result buffer.new }
         ensures keeps { KeepsClusters buffer.old buffer.new }
     {
         if buffer.have_output() {
@@ -105,6 +107,7 @@ impl<'a> Action<'a> {
         requires { buffer.old.have_output ≡ true }
         ensures left { IsLeftOpen result buffer.new }
         ensures spent { IsNotMore work.old.budget work.new.budget }
+        ensures refusal { IsRefusal false result buffer.new }
         ensures keeps { KeepsClusters buffer.old buffer.new }
     {
         match self {

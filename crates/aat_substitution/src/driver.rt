@@ -4,6 +4,7 @@ ghost use Rattle.std.specs.Prelude.{◌≡◌, ◌<◌, ◌≤◌, true, false, 
 ghost use Rattle.shaping_buffer.specs.KeepsClusters.{KeepsClusters};
 ghost use Rattle.aat_substitution.specs.Left.{IsLeftAs, IsLeftClosed};
 ghost use Rattle.ot_layout.specs.Budget.{IsNotMore};
+ghost use Rattle.shaping_passes.specs.Refusals.{IsRefusal};
 
 use crate::action::Action;
 use crate::setting::{DONT_ADVANCE, Setting};
@@ -56,6 +57,7 @@ impl Setting<'_> {
         requires { buffer.old.have_output ≡ false }
         ensures left { IsLeftClosed result buffer.new }
         ensures spent { IsNotMore work.old.budget work.new.budget }
+        ensures refusal { IsRefusal false result buffer.new }
         ensures keeps { KeepsClusters buffer.old buffer.new }
     {
         if action.is_in_place() {
@@ -78,6 +80,7 @@ impl Setting<'_> {
         requires { buffer.old.have_output ≡ false }
         ensures left { IsLeftClosed result buffer.new }
         ensures spent { IsNotMore work.old.budget work.new.budget }
+        ensures refusal { IsRefusal false result buffer.new }
         ensures keeps { KeepsClusters buffer.old buffer.new }
     {
         if !buffer.move_to(0)? {
@@ -95,6 +98,7 @@ impl Setting<'_> {
     ) -> Result<bool, AllocError>
         ensures left { IsLeftAs buffer.old result buffer.new }
         ensures spent { IsNotMore work.old.budget work.new.budget }
+        ensures refusal { IsRefusal false result buffer.new }
         ensures keeps { KeepsClusters buffer.old buffer.new }
     {
         let mut place = Place {
@@ -125,6 +129,7 @@ impl Setting<'_> {
     ) -> Result<Step, AllocError>
         ensures left { IsLeftAs buffer.old result buffer.new }
         ensures spent { IsNotMore work.old.budget work.new.budget }
+        ensures refusal { IsRefusal Step.Refused result buffer.new }
         ensures keeps { KeepsClusters buffer.old buffer.new }
     {
         let part = self.part_at(buffer, place.part);
@@ -222,14 +227,14 @@ fn mark_break(buffer: &mut hb_buffer_t)
 /// Goes to the next glyph, if there is one.
 fn advance(buffer: &mut hb_buffer_t, next: Place) -> Result<Step, AllocError>
     ensures left { IsLeftAs buffer.old result buffer.new }
+    ensures refusal { IsRefusal Step.Refused result buffer.new }
     ensures keeps { KeepsClusters buffer.old buffer.new }
 {
     if buffer.lookahead_len() == 0 {
         return Ok(Step::End);
     }
-    Ok(if buffer.next_glyph()? {
-        Step::On(next)
-    } else {
-        Step::Refused
-    })
+    if !buffer.next_glyph()? {
+        return Ok(Step::Refused);
+    }
+    Ok(Step::On(next))
 }

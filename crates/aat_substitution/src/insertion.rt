@@ -4,6 +4,7 @@ ghost use Rattle.std.specs.Prelude.{◌≡◌, ◌<◌, ◌≤◌, true, false, 
 ghost use Rattle.shaping_buffer.specs.KeepsClusters.{KeepsClusters};
 ghost use Rattle.aat_substitution.specs.Left.{IsLeftOpen};
 ghost use Rattle.ot_layout.specs.Budget.{IsNotMore};
+ghost use Rattle.shaping_passes.specs.Refusals.{IsRefusal};
 
 use crate::setting::DONT_ADVANCE;
 use crate::work::Work;
@@ -91,6 +92,7 @@ impl<'a> Insertion<'a> {
         requires { buffer.old.have_output ≡ true }
         ensures left { IsLeftOpen result buffer.new }
         ensures spent { IsNotMore work.old.budget work.new.budget }
+        ensures refusal { IsRefusal false result buffer.new }
         ensures keeps { KeepsClusters buffer.old buffer.new }
     {
         let mark = buffer.out_len();
@@ -122,6 +124,7 @@ impl<'a> Insertion<'a> {
         requires { buffer.old.have_output ≡ true }
         ensures left { IsLeftOpen result buffer.new }
         ensures spent { IsNotMore work.old.budget work.new.budget }
+        ensures refusal { IsRefusal false result buffer.new }
         ensures keeps { KeepsClusters buffer.old buffer.new }
     {
         let count = entry.flags / CURRENT_COUNT_UNIT % 32;
@@ -153,6 +156,7 @@ fn insert_at_mark(
     requires { buffer.old.have_output ≡ true }
     ensures left { IsLeftOpen result buffer.new }
     ensures spent { IsNotMore work.old.budget work.new.budget }
+    ensures refusal { IsRefusal false result buffer.new }
     ensures keeps { KeepsClusters buffer.old buffer.new }
 {
     let end = buffer.out_len();
@@ -199,6 +203,7 @@ fn mark_break(buffer: &mut hb_buffer_t, from: usize)
 fn insert(buffer: &mut hb_buffer_t, inserted: &Inserted) -> Result<bool, AllocError>
     requires { buffer.old.have_output ≡ true }
     ensures left { IsLeftOpen result buffer.new }
+    ensures refusal { IsRefusal false result buffer.new }
     ensures keeps { KeepsClusters buffer.old buffer.new }
 {
     let has_current = buffer.lookahead_len() > 0;
@@ -219,6 +224,7 @@ fn insert_behind(buffer: &mut hb_buffer_t, inserted: &Inserted) -> Result<bool, 
     requires opened { buffer.old.have_output ≡ true }
     requires glyph { 0 < length buffer.old.input }
     ensures left { IsLeftOpen result buffer.new }
+    ensures refusal { IsRefusal false result buffer.new }
     ensures keeps { KeepsClusters buffer.old buffer.new }
 {
     let mut ids = [buffer.cur(0).glyph_id; 32];

@@ -4,6 +4,7 @@ ghost use Rattle.std.specs.Prelude.{◌≡◌, ◌<◌, ◌≤◌, true, false, 
 ghost use Rattle.shaping_buffer.specs.KeepsClusters.{KeepsClusters};
 ghost use Rattle.aat_substitution.specs.Left.{IsLeftOpen};
 ghost use Rattle.ot_layout.specs.Budget.{IsNotMore};
+ghost use Rattle.shaping_passes.specs.Refusals.{IsRefusal};
 
 use crate::work::Work;
 use crate::writing::{go_to, hide_current};
@@ -91,6 +92,7 @@ impl<'a> Ligature<'a> {
         requires { buffer.old.have_output ≡ true }
         ensures left { IsLeftOpen result buffer.new }
         ensures spent { IsNotMore work.old.budget work.new.budget }
+        ensures refusal { IsRefusal false result buffer.new }
         ensures keeps { KeepsClusters buffer.old buffer.new }
     {
         if entry.flags & SET_COMPONENT != 0 {
@@ -125,6 +127,7 @@ impl<'a> Ligature<'a> {
         requires { buffer.old.have_output ≡ true }
         ensures left { IsLeftOpen result buffer.new }
         ensures spent { IsNotMore work.old.budget work.new.budget }
+        ensures refusal { IsRefusal false result buffer.new }
         ensures keeps { KeepsClusters buffer.old buffer.new }
     {
         let mut ligature = 0;
@@ -153,6 +156,7 @@ impl<'a> Ligature<'a> {
         requires { buffer.old.have_output ≡ true }
         ensures left { IsLeftOpen result buffer.new }
         ensures spent { IsNotMore work.old.budget work.new.budget }
+        ensures refusal { IsRefusal Made.Refused result buffer.new }
         ensures keeps { KeepsClusters buffer.old buffer.new }
     {
         if !go_to(buffer, self.place(component), work)? {
@@ -208,6 +212,7 @@ impl<'a> Ligature<'a> {
         requires { buffer.old.have_output ≡ true }
         ensures left { IsLeftOpen result buffer.new }
         ensures spent { IsNotMore work.old.budget work.new.budget }
+        ensures refusal { IsRefusal false result buffer.new }
         ensures keeps { KeepsClusters buffer.old buffer.new }
     {
         if !put(buffer, glyph)? {
@@ -233,6 +238,7 @@ impl<'a> Ligature<'a> {
 fn put(buffer: &mut hb_buffer_t, glyph: u16) -> Result<bool, AllocError>
     requires { buffer.old.have_output ≡ true }
     ensures left { IsLeftOpen result buffer.new }
+    ensures refusal { IsRefusal false result buffer.new }
     ensures keeps { KeepsClusters buffer.old buffer.new }
 {
     if buffer.lookahead_len() == 0 {
@@ -246,6 +252,7 @@ fn delete_at(buffer: &mut hb_buffer_t, place: usize, work: &mut Work) -> Result<
     requires { buffer.old.have_output ≡ true }
     ensures left { IsLeftOpen result buffer.new }
     ensures spent { IsNotMore work.old.budget work.new.budget }
+    ensures refusal { IsRefusal false result buffer.new }
     ensures keeps { KeepsClusters buffer.old buffer.new }
 {
     if !go_to(buffer, place, work)? {
@@ -258,6 +265,7 @@ fn delete_at(buffer: &mut hb_buffer_t, place: usize, work: &mut Work) -> Result<
 fn delete(buffer: &mut hb_buffer_t) -> Result<bool, AllocError>
     requires { buffer.old.have_output ≡ true }
     ensures left { IsLeftOpen result buffer.new }
+    ensures refusal { IsRefusal false result buffer.new }
     ensures keeps { KeepsClusters buffer.old buffer.new }
 {
     if buffer.lookahead_len() == 0 {

@@ -4,6 +4,7 @@ ghost use Rattle.std.specs.Prelude.{◌≡◌, ◌<◌, ◌≤◌, true, false, 
 ghost use Rattle.shaping_buffer.specs.KeepsClusters.{KeepsClusters};
 ghost use Rattle.aat_substitution.specs.Left.{IsLeftClosed};
 ghost use Rattle.ot_layout.specs.Budget.{IsNotMore};
+ghost use Rattle.shaping_passes.specs.Refusals.{IsRefusal};
 
 use crate::action::Action;
 use crate::chain_flags::ChainFlags;
@@ -36,6 +37,7 @@ pub struct Substitution<'a> {
 pub fn substitute(buffer: &mut hb_buffer_t, substitution: &Substitution) -> Result<bool, AllocError>
     requires { buffer.old.have_output ≡ false }
     ensures left { IsLeftClosed result buffer.new }
+    ensures refusal { IsRefusal false result buffer.new }
     ensures keeps { IfOk result (λ done. done ≡ true → KeepsClusters buffer.old buffer.new) }
 {
     let mut work = Work::new(buffer.max_ops, buffer.info());
@@ -66,6 +68,7 @@ fn apply_chain(
 ) -> Result<bool, AllocError>
     requires { buffer.old.have_output ≡ false }
     ensures left { IsLeftClosed result buffer.new }
+    ensures refusal { IsRefusal false result buffer.new }
     ensures keeps { IfOk result (λ done. done ≡ true → KeepsClusters buffer.old buffer.new) }
 {
     let Some(row) = substitution.table.chains.get(chain) else {
@@ -112,6 +115,7 @@ fn apply_subtable(
 ) -> Result<bool, AllocError>
     requires { buffer.old.have_output ≡ false }
     ensures left { IsLeftClosed result buffer.new }
+    ensures refusal { IsRefusal false result buffer.new }
     ensures keeps { IfOk result (λ done. done ≡ true → KeepsClusters buffer.old buffer.new) }
 {
     if !is_reversed(subtable.coverage, buffer.direction) {
@@ -136,6 +140,7 @@ fn apply(
     requires { buffer.old.have_output ≡ false }
     ensures left { IsLeftClosed result buffer.new }
     ensures spent { IsNotMore work.old.budget work.new.budget }
+    ensures refusal { IsRefusal false result buffer.new }
     ensures keeps { KeepsClusters buffer.old buffer.new }
 {
     let glyph_count = substitution.table.glyph_count;

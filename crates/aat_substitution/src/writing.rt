@@ -5,6 +5,7 @@ ghost use Rattle.shaping_buffer.specs.Clusters.{clusters};
 ghost use Rattle.shaping_buffer.specs.KeepsClusters.{KeepsClusters};
 ghost use Rattle.aat_substitution.specs.Left.{IsLeftOpen};
 ghost use Rattle.ot_layout.specs.Budget.{IsNotMore};
+ghost use Rattle.shaping_passes.specs.Refusals.{IsRefusal};
 
 use crate::work::Work;
 use font_tables::gdef::Gdef;
@@ -67,6 +68,7 @@ pub(crate) fn go_to(
     requires { buffer.old.have_output ≡ true }
     ensures left { IsLeftOpen result buffer.new }
     ensures spent { IsNotMore work.old.budget work.new.budget }
+    ensures refusal { IsRefusal false result buffer.new }
     ensures keeps { KeepsClusters buffer.old buffer.new }
 {
     let out_len = buffer.out_len();

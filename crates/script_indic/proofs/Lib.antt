@@ -2,4 +2,3 @@
 -- same items in another order (`PlacedLemmas`).
 
 pub mod PlacedLemmas
-pub mod IndicRows

@@ -5,6 +5,7 @@ ghost use Rattle.std.specs.Prelude.{◌≡◌, ◌<◌, true, false, length, IfO
 ghost use Rattle.shaping_buffer.specs.Clusters.{clusters};
 ghost use Rattle.shaping_buffer.specs.KeepsClusters.{KeepsClusters};
 ghost use Rattle.shaping_passes.specs.NormalizationComposition.{IsReady, IsPlace};
+ghost use Rattle.shaping_passes.specs.Refusals.{IsRefusal};
 
 use super::pairs::{Composing, pair_of};
 use super::reordering::KeptClasses;
@@ -26,6 +27,7 @@ pub(crate) fn recompose_all<F: FontFunctions>(
 ) -> Result<bool, AllocError>
     requires { buffer.old.have_output ≡ false }
     ensures closed { IfOk result (λ done. done ≡ true → buffer.new.have_output ≡ false) }
+    ensures refusal { IsRefusal false result buffer.new }
     ensures keeps { KeepsClusters buffer.old buffer.new }
 {
     if !buffer.successful() {

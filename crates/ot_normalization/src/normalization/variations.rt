@@ -2,6 +2,7 @@
 
 ghost use Rattle.std.specs.Prelude.{◌≡◌, ◌+◌, ◌<◌, ◌≤◌, true, false, length, IfOk};
 ghost use Rattle.shaping_buffer.specs.KeepsClusters.{KeepsClusters};
+ghost use Rattle.shaping_passes.specs.Refusals.{IsRefusal};
 
 use super::decomposition::{is_variation_selector, set_current_glyph};
 use font_functions::FontFunctions;
@@ -21,6 +22,7 @@ pub(crate) fn read_variations<F: FontFunctions>(
 ) -> Result<bool, AllocError>
     requires { buffer.old.have_output ≡ true }
     ensures opened { IfOk result (λ _. buffer.new.have_output ≡ true) }
+    ensures refusal { IsRefusal false result buffer.new }
     ensures keeps { KeepsClusters buffer.old buffer.new }
 {
     let end = buffer.idx().saturating_add(count);
@@ -45,6 +47,7 @@ fn read_next<F: FontFunctions>(
     requires opened { buffer.old.have_output ≡ true }
     requires glyph { 0 < length buffer.old.input }
     ensures opened { IfOk result (λ _. buffer.new.have_output ≡ true) }
+    ensures refusal { IsRefusal false result buffer.new }
     ensures keeps { KeepsClusters buffer.old buffer.new }
 {
     if buffer.idx().saturating_add(1) >= end
@@ -65,6 +68,7 @@ fn read_variation<F: FontFunctions>(buffer: &mut hb_buffer_t, font: &F) -> Resul
     requires opened { buffer.old.have_output ≡ true }
     requires glyphs { 1 < length buffer.old.input }
     ensures opened { IfOk result (λ _. buffer.new.have_output ≡ true) }
+    ensures refusal { IsRefusal false result buffer.new }
     ensures keeps { KeepsClusters buffer.old buffer.new }
 {
     let character = buffer.cur(0).glyph_id;
@@ -84,9 +88,10 @@ fn keep_both(buffer: &mut hb_buffer_t) -> Result<bool, AllocError>
     requires opened { buffer.old.have_output ≡ true }
     requires glyphs { 1 < length buffer.old.input }
     ensures opened { IfOk result (λ _. buffer.new.have_output ≡ true) }
+    ensures refusal { IsRefusal false result buffer.new }
     ensures keeps { KeepsClusters buffer.old buffer.new }
 {
-    if !buffer.next_glyph()? || buffer.lookahead_len() == 0 {
+    if !buffer.next_glyph()? {
         return Ok(false);
     }
     buffer.scratch_flags = buffer.scratch_flags
@@ -122,6 +127,7 @@ fn note(info: &mut hb_glyph_info_t, is_shown: bool)
 fn keep_selectors(buffer: &mut hb_buffer_t, end: usize) -> Result<bool, AllocError>
     requires { buffer.old.have_output ≡ true }
     ensures opened { IfOk result (λ _. buffer.new.have_output ≡ true) }
+    ensures refusal { IsRefusal false result buffer.new }
     ensures keeps { KeepsClusters buffer.old buffer.new }
 {
     for _turn in buffer.idx()..end {
