@@ -214,9 +214,8 @@ fn advance(buffer: &mut hb_buffer_t, next: Place) -> Result<Step, AllocError> {
     if buffer.lookahead_len() == 0 {
         return Ok(Step::End);
     }
-    Ok(if buffer.next_glyph()? {
-        Step::On(next)
-    } else {
-        Step::Refused
-    })
+    if !buffer.next_glyph()? {
+        return Ok(Step::Refused);
+    }
+    Ok(Step::On(next))
 }

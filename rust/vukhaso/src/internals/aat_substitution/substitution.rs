@@ -43,6 +43,7 @@ pub struct Substitution<'a> {
 ///
 /// ```text
 /// ensures left { IsLeftClosed result buffer.new }
+/// ensures refusal { IsRefusal false result buffer.new }
 /// ensures keeps { IfOk result (λ done. done ≡ true → KeepsClusters buffer.old buffer.new) }
 /// ```
 #[inline]

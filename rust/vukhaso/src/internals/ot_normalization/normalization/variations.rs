@@ -91,7 +91,7 @@ fn read_variation<F: FontFunctions>(
 fn keep_both(buffer: &mut hb_buffer_t) -> Result<bool, AllocError> {
     debug_assert!(buffer.have_output());
     debug_assert!(1 < buffer.info().len());
-    if !buffer.next_glyph()? || buffer.lookahead_len() == 0 {
+    if !buffer.next_glyph()? {
         return Ok(false);
     }
     buffer.scratch_flags =
