@@ -1,6 +1,6 @@
 //! Ligatures: several glyphs become one, and what was passed over between them stays after it.
 
-ghost use Rattle.std.specs.Prelude.{◌≡◌, ◌<◌, ◌≤◌, ◌∷◌, ◌-◌, ◌%◌, true, drop, length, map, if◌then◌else◌};
+ghost use Rattle.std.specs.Prelude.{◌≡◌, ◌<◌, ◌≤◌, ◌∷◌, ◌-◌, ◌%◌, true, false, drop, length, map, if◌then◌else◌};
 ghost use Rattle.shaping_buffer.specs.Limits.{allocate_lig_id};
 ghost use Rattle.ot_lookups.specs.LookupProps.{glyph_at};
 ghost use Rattle.ot_gsub.specs.Edits.{GivesOrWants};
@@ -8,6 +8,7 @@ ghost use Rattle.ot_gsub.specs.Ligatures as ligatures;
 ghost use Rattle.ot_gsub.specs.Open.{IsLeftOpen};
 ghost use Rattle.ot_gsub.specs.Writing as writing;
 ghost use Rattle.shaping_buffer.specs.KeepsClusters.{KeepsClusters};
+ghost use Rattle.shaping_passes.specs.Refusals.{IsRefusal};
 
 use crate::multiplication::set_class;
 use crate::properties::{BASE, LIGATURE, MARK, Way};
@@ -143,6 +144,7 @@ pub(crate) fn ligate(
     requires glyph { 0 < length buffer.old.input }
     ensures gives { GivesOrWants (ligatures.ligate gdef.now.table.now ligation.now places.now.items buffer.old) result buffer.new }
     ensures left { IsLeftOpen result buffer.new }
+    ensures refusal { IsRefusal false result buffer.new }
     ensures keeps { KeepsClusters buffer.old buffer.new }
 {
     let others = others(places.as_slice());
@@ -174,6 +176,7 @@ fn put_ligature(
     requires glyph { 0 < length buffer.old.input }
     ensures gives { GivesOrWants (ligatures.put_ligature gdef.now.table.now ligature made buffer.old) result buffer.new }
     ensures left { IsLeftOpen result buffer.new }
+    ensures refusal { IsRefusal false result buffer.new }
     ensures keeps { KeepsClusters buffer.old buffer.new }
 {
     let guess = if made.has_number() { LIGATURE } else { 0 };
@@ -190,6 +193,7 @@ fn take_in(
     requires { buffer.old.have_output ≡ true }
     ensures gives { GivesOrWants (ligatures.take_in first.now places.now buffer.old) result buffer.new }
     ensures left { IsLeftOpen result buffer.new }
+    ensures refusal { IsRefusal false result buffer.new }
     ensures keeps { KeepsClusters buffer.old buffer.new }
 {
     let mut components = *first;
@@ -381,6 +385,7 @@ fn pass_over(
     requires { buffer.old.have_output ≡ true }
     ensures gives { GivesOrWants (ligatures.pass_over components.now passed buffer.old) result buffer.new }
     ensures left { IsLeftOpen result buffer.new }
+    ensures refusal { IsRefusal false result buffer.new }
     ensures keeps { KeepsClusters buffer.old buffer.new }
 {
     let count = passed.min(buffer.lookahead_len());

@@ -9,6 +9,7 @@ ghost use Rattle.ot_gsub.specs.Open.{IsLeftOpen};
 ghost use Rattle.ot_gsub.specs.Writing.{has_twin_before};
 ghost use Rattle.shaping_buffer.specs.KeepsClusters.{KeepsClusters};
 ghost use Rattle.shaping_buffer.specs.Step.{Meets};
+ghost use Rattle.shaping_passes.specs.Refusals.{IsRefusal};
 
 use crate::properties::{BASE, LIGATURE, Way, substituted_props};
 use crate::substitution::Progress;
@@ -44,6 +45,7 @@ pub(crate) fn replace(buffer: &mut hb_buffer_t, gdef: &Gdef, glyph: u16) -> Resu
         (edits.set_class gdef.now.table.now glyph Way.Replaced 0 buffer.old) result buffer.new }
     ensures in_place { buffer.old.have_separate_output ≡ false → result ≡ Ok true }
     ensures left { IsLeftOpen result buffer.new }
+    ensures refusal { IsRefusal false result buffer.new }
     ensures keeps { KeepsClusters buffer.old buffer.new }
 {
     set_class(buffer, gdef, glyph, Way::Replaced, 0);
@@ -65,6 +67,7 @@ pub(crate) fn choose(
     ensures random { progress.new.random_state ≡ edits.next_random progress.old.random_state }
     ensures left { IsLeftOpen result buffer.new }
     ensures same_search { progress.new.search ≡ progress.old.search }
+    ensures refusal { IsRefusal false result buffer.new }
     ensures keeps { KeepsClusters buffer.old buffer.new }
 {
     mark_all(buffer);
@@ -120,6 +123,7 @@ pub(crate) fn multiply(
     requires glyph { 0 < length buffer.old.input }
     ensures gives { GivesOrWants (edits.multiply gdef.now.table.now sequence.now.table.now buffer.old) result buffer.new }
     ensures left { IsLeftOpen result buffer.new }
+    ensures refusal { IsRefusal false result buffer.new }
     ensures keeps { KeepsClusters buffer.old buffer.new }
 {
     if sequence.len() == 0 {
@@ -152,6 +156,7 @@ fn put_part(
     ensures left { IsLeftOpen result buffer.new }
     ensures glyph { IfOk result (λ _. 0 < length buffer.new.input) }
     ensures twin { IfOk result (λ done. done ≡ true → has_twin_before buffer.new ≡ true) }
+    ensures refusal { IsRefusal false result buffer.new }
     ensures keeps { KeepsClusters buffer.old buffer.new }
 {
     set_component(buffer, index, ligature_id(whole) != 0);

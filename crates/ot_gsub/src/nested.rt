@@ -1,6 +1,6 @@
 //! A lookup at the cursor, and the lookups that it applies.
 
-ghost use Rattle.std.specs.Prelude.{◌≡◌, ◌+◌, ◌<◌, ◌≤◌, true, length, min, nat_lt, IfOk, Ok, if◌then◌else◌};
+ghost use Rattle.std.specs.Prelude.{◌≡◌, ◌+◌, ◌<◌, ◌≤◌, true, false, length, min, nat_lt, IfOk, Ok, if◌then◌else◌};
 ghost use Rattle.ot_layout.specs.Budget.{IsNotMore};
 ghost use Rattle.ot_gsub.specs.Changes.{glyph_numbers};
 ghost use Rattle.ot_gsub.specs.Edits.{GivesOrWants};
@@ -13,6 +13,7 @@ ghost use Rattle.ot_gsub.specs.Turn.{Ends, IsDecided, IsTurnAt, nested};
 ghost use Rattle.ot_gsub.specs.declared.nested.Turn.TheVariants.{On, Enough};
 ghost use Rattle.shaping_buffer.specs.KeepsClusters.{KeepsClusters};
 ghost use Rattle.shaping_buffer.specs.Step.{move_to};
+ghost use Rattle.shaping_passes.specs.Refusals.{IsRefusal};
 
 use crate::ligation::ligate;
 use crate::match_positions::Matched;
@@ -59,6 +60,7 @@ pub(crate) fn apply_at(
     ensures same_length { result ≡ Ok Step.Passed → length buffer.new.input ≡ length buffer.old.input }
     ensures left { IsLeftOpen result buffer.new }
     ensures spent { IsNotMore progress.old.search.budget progress.new.search.budget }
+    ensures refusal { IsRefusal Step.Refused result buffer.new }
     ensures keeps { KeepsClusters buffer.old buffer.new }
 {
     let edit = decide(buffer, substitutions, lookup, progress, depth);
@@ -184,6 +186,7 @@ fn make(
         (now_of buffer.old progress.old) result (now_of buffer.new progress.new) }
     ensures left { IsLeftOpen result buffer.new }
     ensures spent { IsNotMore progress.old.search.budget progress.new.search.budget }
+    ensures refusal { IsRefusal false result buffer.new }
     ensures keeps { KeepsClusters buffer.old buffer.new }
 {
     let gdef = substitutions.gdef;
@@ -212,6 +215,7 @@ fn apply_fit(
         (now_of buffer.old progress.old) done (now_of buffer.new progress.new)) }
     ensures left { IsLeftOpen result buffer.new }
     ensures spent { IsNotMore progress.old.search.budget progress.new.search.budget }
+    ensures refusal { IsRefusal false result buffer.new }
     ensures keeps { KeepsClusters buffer.old buffer.new }
 {
     mark_fit(buffer, fit);
@@ -265,6 +269,7 @@ fn go_to(buffer: &mut hb_buffer_t, place: usize) -> Result<bool, AllocError>
     requires { buffer.old.have_output ≡ true }
     ensures gives { GivesOrWants (move_to (min place (lookups.both_len buffer.old)) buffer.old) result buffer.new }
     ensures left { IsLeftOpen result buffer.new }
+    ensures refusal { IsRefusal false result buffer.new }
     ensures keeps { KeepsClusters buffer.old buffer.new }
 {
     let count = both_len(buffer);
@@ -307,6 +312,7 @@ fn apply_record(
         turn (match_of matched.new) (now_of buffer.new progress.new)) }
     ensures left { IsLeftOpen result buffer.new }
     ensures spent { IsNotMore progress.old.search.budget progress.new.search.budget }
+    ensures refusal { IsRefusal Turn.Refused result buffer.new }
     ensures keeps { KeepsClusters buffer.old buffer.new }
 {
     let before = both_len(buffer);
@@ -375,6 +381,7 @@ fn apply_other(
         nested depth substitutions.now index (now_of buffer.old progress.old) step (now_of buffer.new progress.new)) }
     ensures left { IsLeftOpen result buffer.new }
     ensures spent { IsNotMore progress.old.search.budget progress.new.search.budget }
+    ensures refusal { IsRefusal Step.Refused result buffer.new }
     ensures keeps { KeepsClusters buffer.old buffer.new }
 {
     if depth == 0 || !progress.search.budget.nest() {

@@ -11,6 +11,7 @@ ghost use Rattle.ot_gsub.specs.Open.{IsLeftOpen, IsLeftClosed};
 ghost use Rattle.ot_gsub.specs.Runs.{IsForward, IsRestDone, IsRun, IsRunOf, IsUnderWay, IsWanting};
 ghost use Rattle.ot_gsub.specs.Singles.{GoesOn, HasMoved, IsForNext, IsLevel, IsSingle, IsSingleIf, IsSubstituted, moved, opened_at, starts_reverse, substituted};
 ghost use Rattle.shaping_buffer.specs.KeepsClusters.{KeepsClusters};
+ghost use Rattle.shaping_passes.specs.Refusals.{IsRefusal};
 
 use crate::nested::{MAX_NESTING_LEVEL, Step, apply_at};
 use crate::reverse::substitute_reverse;
@@ -83,6 +84,7 @@ pub fn substitute(
     ensures tells { result ≡ Ok true → TellsChanges buffer.old progress.old.has_changed buffer.new progress.new.has_changed }
     ensures left { IsLeftClosed result buffer.new }
     ensures spent { IsNotMore progress.old.search.budget progress.new.search.budget }
+    ensures refusal { IsRefusal false result buffer.new }
     ensures keeps { KeepsClusters buffer.old buffer.new }
 {
     let mask = substitutions.options.mask;
@@ -125,6 +127,7 @@ fn apply(
     ensures tells { result ≡ Ok true → TellsChanges buffer.old progress.old.has_changed buffer.new progress.new.has_changed }
     ensures left { IsLeftClosed result buffer.new }
     ensures spent { IsNotMore progress.old.search.budget progress.new.search.budget }
+    ensures refusal { IsRefusal false result buffer.new }
     ensures keeps { KeepsClusters buffer.old buffer.new }
 {
     if progress.search.budget.is_spent() {
@@ -185,6 +188,7 @@ fn substitute_forward(
     ensures tells { result ≡ Ok true → TellsChanges buffer.old progress.old.has_changed buffer.new progress.new.has_changed }
     ensures left { IsLeftClosed result buffer.new }
     ensures spent { IsNotMore progress.old.search.budget progress.new.search.budget }
+    ensures refusal { IsRefusal false result buffer.new }
     ensures keeps { KeepsClusters buffer.old buffer.new }
 {
     prove!(!buffer.have_separate_output());
@@ -206,6 +210,7 @@ fn open_at(buffer: &mut hb_buffer_t, first: usize) -> Result<bool, AllocError>
     requires first { first ≤ length buffer.old.input }
     ensures opened { (result ≡ Ok true) × (buffer.new ≡ opened_at first buffer.old) }
     ensures left { IsLeftOpen result buffer.new }
+    ensures refusal { IsRefusal false result buffer.new }
     ensures keeps { KeepsClusters buffer.old buffer.new }
 {
     buffer.clear_output();
@@ -229,6 +234,7 @@ fn substitute_rest(
     ensures tells { result ≡ Ok true → TellsChanges buffer.old progress.old.has_changed buffer.new progress.new.has_changed }
     ensures left { IsLeftOpen result buffer.new }
     ensures spent { IsNotMore progress.old.search.budget progress.new.search.budget }
+    ensures refusal { IsRefusal false result buffer.new }
     ensures keeps { KeepsClusters buffer.old buffer.new }
 {
     let count = buffer.len();
@@ -263,6 +269,7 @@ fn substitute_next(
     ensures tells { result ≡ Ok true → TellsChanges buffer.old progress.old.has_changed buffer.new progress.new.has_changed }
     ensures left { IsLeftOpen result buffer.new }
     ensures spent { IsNotMore progress.old.search.budget progress.new.search.budget }
+    ensures refusal { IsRefusal false result buffer.new }
     ensures keeps { KeepsClusters buffer.old buffer.new }
 {
     match apply_at(buffer, substitutions, lookup, progress, MAX_NESTING_LEVEL)? {
@@ -284,6 +291,7 @@ fn go_on(
     ensures wants { IsErr result → IsWanting lookup.now substitutions.now.options.mask count buffer.old }
     ensures in_place { buffer.old.have_separate_output ≡ false → result ≡ Ok true }
     ensures left { IsLeftOpen result buffer.new }
+    ensures refusal { IsRefusal false result buffer.new }
     ensures keeps { KeepsClusters buffer.old buffer.new }
 {
     let input = buffer.info();
