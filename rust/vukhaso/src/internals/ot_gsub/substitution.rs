@@ -83,6 +83,7 @@ impl Progress {
 /// ensures tells { result ≡ Ok true → TellsChanges buffer.old progress.old.has_changed buffer.new progress.new.has_changed }
 /// ensures left { IsLeftClosed result buffer.new }
 /// ensures spent { IsNotMore progress.old.search.budget progress.new.search.budget }
+/// ensures refusal { IsRefusal false result buffer.new }
 /// ensures keeps { KeepsClusters buffer.old buffer.new }
 /// ```
 #[inline]
