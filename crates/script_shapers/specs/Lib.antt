@@ -1,3 +1,4 @@
 pub mod Shapers
 pub mod Stages
 pub mod Syllables
+pub mod ShaperFeatures

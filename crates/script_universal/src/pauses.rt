@@ -2,6 +2,7 @@
 
 ghost use Rattle.std.specs.Prelude.{◌≡◌, true, false, IfOk};
 ghost use Rattle.script_syllables.specs.KeepsNumbers.{KeepsNumbers};
+ghost use Rattle.shaping_passes.specs.Refusals.{IsRefusal};
 
 use ot_map::Pause;
 use script_syllables::dotted_circle::CircleKind;
@@ -38,6 +39,7 @@ pub fn pause<S: ReorderingShaper, F: FontForms>(
 ) -> Result<bool, AllocError>
     requires { buffer.old.have_output ≡ false }
     ensures closed { IfOk result (λ done. done ≡ true → buffer.new.have_output ≡ false) }
+    ensures refusal { IsRefusal false result buffer.new }
     ensures keeps { KeepsNumbers buffer.old buffer.new }
 {
     match pause {

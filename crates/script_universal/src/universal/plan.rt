@@ -3,6 +3,7 @@
 ghost use Rattle.std.specs.Prelude.{◌≡◌, true, false, IfOk};
 ghost use Rattle.shaping_buffer.specs.KeepsClusters.{KeepsClusters};
 ghost use Rattle.script_syllables.specs.KeepsNumbers.{KeepsNumbers};
+ghost use Rattle.shaping_passes.specs.Refusals.{IsRefusal};
 
 use crate::universal::item::mark_passed_over;
 use crate::universal::machine::universal_machine;
@@ -75,6 +76,7 @@ impl UniversalPlan {
     ) -> Result<bool, AllocError>
         requires { buffer.old.have_output ≡ false }
         ensures closed { IfOk result (λ done. done ≡ true → buffer.new.have_output ≡ false) }
+        ensures refusal { IsRefusal false result buffer.new }
         ensures keeps { KeepsNumbers buffer.old buffer.new }
     {
         match pause {
