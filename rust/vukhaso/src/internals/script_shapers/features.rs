@@ -19,8 +19,10 @@ use crate::script_universal::{khmer, myanmar, universal};
 /// # Proved
 ///
 /// ```text
-/// ensures { shaper ≢ Arabic
+/// ensures pauses { shaper ≢ Arabic
 ///     → IfOk result (λ _. builder.new.pauses.items ≡ builder.old.pauses.items ++ pauses_of shaper) }
+/// ensures asks { IfOk result
+///     (λ _. Asks (features_of shaper script (requires_forms builder.old)) builder.old builder.new) }
 /// ```
 #[inline]
 pub fn collect_features(
@@ -55,7 +57,8 @@ pub fn collect_features(
 /// # Proved
 ///
 /// ```text
-/// ensures { HasSamePauses builder.old builder.new }
+/// ensures pauses { HasSamePauses builder.old builder.new }
+/// ensures asks { IfOk result (λ _. Asks (overrides_of shaper) builder.old builder.new) }
 /// ```
 #[inline]
 pub fn override_features(
@@ -63,7 +66,10 @@ pub fn override_features(
     builder: &mut PlanBuilder,
 ) -> Result<(), AllocError> {
     match shaper {
-        ScriptShaper::Hangul => builder.disable_feature(Tag::from_bytes(b"calt")),
+        ScriptShaper::Hangul => {
+            builder.disable_feature(Tag::from_bytes(b"calt"))?;
+            Ok(())
+        }
         ScriptShaper::Indic => crate::script_indic::features::override_features(builder),
         ScriptShaper::Khmer => khmer::features::override_features(builder),
         _ => Ok(()),

@@ -45,6 +45,7 @@ pub trait ReorderingShaper: SyllableOrder {
 ///
 /// ```text
 /// ensures closed { IfOk result (λ done. done ≡ true → buffer.new.have_output ≡ false) }
+/// ensures refusal { IsRefusal false result buffer.new }
 /// ensures keeps { KeepsNumbers buffer.old buffer.new }
 /// ```
 #[inline]
