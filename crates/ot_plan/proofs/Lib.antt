@@ -1,3 +1,4 @@
 pub mod AskedLemmas
+pub mod BuilderLemmas
 pub mod DecisionLemmas
 pub mod KernLemmas

@@ -2,3 +2,4 @@ pub mod Plans
 pub mod Decisions
 pub mod Forms
 pub mod Shapers
+pub mod AskedFor

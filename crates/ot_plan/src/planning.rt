@@ -3,6 +3,10 @@
 ghost use Rattle.std.specs.Prelude.{◌≡◌, false, is_some, map, IfOk};
 ghost use Rattle.std.specs.Option.{option_copied};
 ghost use Rattle.rb_text.specs.Tags.{scripts_of};
+ghost use Rattle.font_variations.specs.FeatureVariations.{substitutions_of};
+ghost use Rattle.ot_map.specs.Asked.{Asks};
+ghost use Rattle.script_shapers.specs.ShaperFeatures.{requires_forms};
+ghost use Rattle.ot_plan.specs.AskedFor.{IsAskedFor, language_tags, other_features};
 ghost use Rattle.ot_plan.specs.Decisions.{kern_of};
 ghost use Rattle.ot_plan.specs.Shapers.{IsDecided, IsMadeOf, shaper_in, has_morx, orders_syllables};
 
@@ -83,6 +87,8 @@ pub fn plan_of_text<F: FontFunctions>(
         (scripts_of buffer.now.script buffer.now.language)) }
     ensures decides { IfOk result (IsDecided face.now buffer.now.direction buffer.now.script
         (scripts_of buffer.now.script buffer.now.language)) }
+    ensures asked { IfOk result (IsAskedFor face.now buffer.now.direction buffer.now.script
+        (scripts_of buffer.now.script buffer.now.language) (language_tags buffer.now.language) features.now) }
 {
     let segment = SegmentProperties {
         direction: buffer.direction,
@@ -103,6 +109,9 @@ pub(crate) fn plan_for<F: FontFunctions>(
         (scripts_of segment.now.script (option_copied segment.now.language))) }
     ensures decides { IfOk result (IsDecided face.now segment.now.direction segment.now.script
         (scripts_of segment.now.script (option_copied segment.now.language))) }
+    ensures asked { IfOk result (IsAskedFor face.now segment.now.direction segment.now.script
+        (scripts_of segment.now.script (option_copied segment.now.language))
+        (language_tags (option_copied segment.now.language)) features.now) }
 {
     let Some(table) = LanguageTable::new(&[]) else {
         return Err(AllocError);
@@ -130,10 +139,13 @@ fn plan_of<F: FontFunctions>(
     text: &TextProperties,
     features: &[Feature],
 ) -> Result<TextPlan, AllocError>
+    requires { text.now.direction ≡ segment.now.direction }
     ensures made { IfOk result (IsMadeOf face.now segment.now.direction segment.now.script
         (map (λ tag. tag.0) text.now.scripts.now)) }
     ensures decides { IfOk result (IsDecided face.now segment.now.direction segment.now.script
         (map (λ tag. tag.0) text.now.scripts.now)) }
+    ensures asked { IfOk result (IsAskedFor face.now segment.now.direction segment.now.script
+        (map (λ tag. tag.0) text.now.scripts.now) (map (λ tag. tag.0) text.now.languages.now) features.now) }
 {
     let tables = layout_of(face);
     let substitutes = substitutes_by_morx(face, segment.direction);
@@ -168,6 +180,10 @@ fn layout_of<'a>(face: &'a Face) -> FontLayout<'a>
     ensures gsub { result.gsub.now ≡ face.now.layout.gsub.now }
     ensures gpos { result.gpos.now ≡ face.now.layout.gpos.now }
     ensures kern { result.kern ≡ kern_of face.now.layout.kern.now }
+    ensures varied_gsub { result.gsub_substitutions.now
+        ≡ substitutions_of face.now.layout.gsub.now face.now.variations.coordinates.items }
+    ensures varied_gpos { result.gpos_substitutions.now
+        ≡ substitutions_of face.now.layout.gpos.now face.now.variations.coordinates.items }
 {
     FontLayout {
         gsub: face.layout.gsub,
@@ -231,6 +247,8 @@ fn add_features(
     ensures own { IfOk result (λ chosen. chosen.own
         ≡ shaper_in false segment.now.script segment.now.direction builder.old.gsub.script.tag.0) }
     ensures morx { IfOk result (λ chosen. chosen.substitutes_by_morx ≡ substitutes_by_morx) }
+    ensures asks { IfOk result (λ chosen. Asks (other_features chosen.shaper (requires_forms builder.old)
+        segment.now.direction segment.now.script features.now) builder.old builder.new) }
 {
     let own = ScriptShaper::of(segment.script, segment.direction, builder.gsub.script.tag);
     let shaper = own.with_morx(substitutes_by_morx);

@@ -4,6 +4,7 @@ ghost use Rattle.std.specs.Prelude.{◌≡◌, ◌↔◌, map, option_map, strin
 ghost use Rattle.glyph_lists.specs.Guess.{unknown_script};
 ghost use Rattle.std.specs.Option.{option_copied};
 ghost use Rattle.rb_text.specs.Tags.{scripts_of};
+ghost use Rattle.ot_plan.specs.AskedFor.{IsAskedFor, language_tags};
 ghost use Rattle.ot_plan.specs.Plans.{IsFor, IsPlanOf, asked};
 ghost use Rattle.ot_plan.specs.Shapers.{IsDecided, IsMadeOf};
 
@@ -65,6 +66,9 @@ impl ShapePlan {
             (scripts_of script (option_copied language.entry)) plan.made) }
         ensures decides { IfOk result (λ plan. IsDecided face.now direction script
             (scripts_of script (option_copied language.entry)) plan.made) }
+        ensures asked { IfOk result (λ plan. IsAskedFor face.now direction script
+            (scripts_of script (option_copied language.entry)) (language_tags (option_copied language.entry))
+            user_features.now plan.made) }
     {
         let own = OwnFunctions { face };
         Self::with_functions(face, &own, direction, script, language, user_features)
@@ -90,6 +94,9 @@ impl ShapePlan {
             (scripts_of script (option_copied language.entry)) plan.made) }
         ensures decides { IfOk result (λ plan. IsDecided face.now direction script
             (scripts_of script (option_copied language.entry)) plan.made) }
+        ensures asked { IfOk result (λ plan. IsAskedFor face.now direction script
+            (scripts_of script (option_copied language.entry)) (language_tags (option_copied language.entry))
+            user_features.now plan.made) }
     {
         let segment = SegmentProperties {
             direction,

@@ -3,6 +3,7 @@
 ghost use Rattle.std.specs.Prelude.{◌≡◌, true, false, IfOk};
 ghost use Rattle.shaping_buffer.specs.KeepsClusters.{KeepsClusters};
 ghost use Rattle.script_syllables.specs.KeepsNumbers.{KeepsNumbers};
+ghost use Rattle.shaping_passes.specs.Refusals.{IsRefusal};
 
 use crate::configuration::IndicConfiguration;
 use crate::final_order::order_finally;
@@ -107,6 +108,7 @@ impl IndicPlan {
     ) -> Result<bool, AllocError>
         requires { buffer.old.have_output ≡ false }
         ensures closed { IfOk result (λ done. done ≡ true → buffer.new.have_output ≡ false) }
+        ensures refusal { IsRefusal false result buffer.new }
         ensures keeps { KeepsNumbers buffer.old buffer.new }
     {
         match pause {
@@ -147,6 +149,7 @@ impl IndicPlan {
     ) -> Result<bool, AllocError>
         requires { buffer.old.have_output ≡ false }
         ensures closed { IfOk result (λ done. done ≡ true → buffer.new.have_output ≡ false) }
+        ensures refusal { IsRefusal false result buffer.new }
         ensures keeps { KeepsNumbers buffer.old buffer.new }
     {
         order_initially(alloc, buffer, self, font)

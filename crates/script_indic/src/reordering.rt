@@ -4,6 +4,7 @@ ghost use Rattle.std.specs.Prelude.{◌≡◌, true, false, IfOk};
 ghost use Rattle.glyph_lists.specs.Clusters.{clusters};
 ghost use Rattle.shaping_buffer.specs.KeepsClusters.{KeepsClusters};
 ghost use Rattle.script_syllables.specs.KeepsNumbers.{KeepsNumbers, SameClusters};
+ghost use Rattle.shaping_passes.specs.Refusals.{IsRefusal};
 
 use crate::base::{Base, find_base};
 use crate::initial_masks::{mask_pref, set_masks};
@@ -43,6 +44,7 @@ pub(crate) fn order_initially<F: FontForms>(
 ) -> Result<bool, AllocError>
     requires { buffer.old.have_output ≡ false }
     ensures closed { IfOk result (λ done. done ≡ true → buffer.new.have_output ≡ false) }
+    ensures refusal { IsRefusal false result buffer.new }
     ensures keeps { KeepsNumbers buffer.old buffer.new }
 {
     if let Some(virama) = plan.virama_glyph(font) {
