@@ -3,6 +3,7 @@
 ghost use Rattle.std.specs.Prelude.{◌≡◌, ◌<◌, true, false, IfOk};
 ghost use Rattle.ot_apply.specs.ClusterOrder.{KeepsStage};
 ghost use Rattle.shaping_buffer.specs.KeepsClusters.{KeepsClusters};
+ghost use Rattle.shaping_passes.specs.Refusals.{IsRefusal};
 
 use font_face::Face;
 use font_functions::FontFunctions;
@@ -67,6 +68,7 @@ pub(crate) fn work_on_syllables<F: FontFunctions>(
 ) -> Result<bool, AllocError>
     requires { buffer.old.have_output ≡ false }
     ensures closed { IfOk result (λ done. done ≡ true → buffer.new.have_output ≡ false) }
+    ensures refusal { IsRefusal false result buffer.new }
     ensures keeps { KeepsStage plan.now.syllables buffer.old buffer.new }
 {
     if !plan.orders_syllables() {

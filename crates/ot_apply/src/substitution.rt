@@ -8,6 +8,7 @@ ghost use Rattle.shaping_buffer.specs.KeepsClusters.{KeepsClusters};
 ghost use Rattle.ot_apply.specs.ClusterOrder.{KeepsStage};
 ghost use Rattle.ot_apply.specs.Stages as by_stage;
 ghost use Rattle.ot_apply.specs.Stages.{AreRuns, AreStagesDone, IsDoneByStages, IsPlannedRun, IsPutInOrder};
+ghost use Rattle.shaping_passes.specs.Refusals.{IsRefusal};
 
 use crate::cluster_order::ClusterCourse;
 use crate::forms_of_font::{fail_if_spent, work_on_syllables};
@@ -40,6 +41,7 @@ pub fn substitute<F: FontFunctions, W: Watch>(
 ) -> Result<bool, AllocError>
     requires { buffer.old.have_output ≡ false }
     ensures closed { IfOk result (λ done. done ≡ true → buffer.new.have_output ≡ false) }
+    ensures refusal { IsRefusal false result buffer.new }
     ensures keeps { IfOk result (λ done. done ≡ true → KeepsClusters buffer.old buffer.new) }
     ensures stages { result ≡ Ok true → plan.now.chain_flags ≡ None → buffer.new.shaping_failed ≡ false
         → IsDoneByStages face.now plan.now buffer.old buffer.new }
@@ -65,6 +67,7 @@ fn substitute_by_morx(
 ) -> Result<bool, AllocError>
     requires { buffer.old.have_output ≡ false }
     ensures closed { IfOk result (λ done. done ≡ true → buffer.new.have_output ≡ false) }
+    ensures refusal { IsRefusal false result buffer.new }
     ensures keeps { IfOk result (λ done. done ≡ true → KeepsClusters buffer.old buffer.new) }
 {
     let substitution = Substitution {
@@ -102,6 +105,7 @@ fn substitute_by_gsub<F: FontFunctions, W: Watch>(
 ) -> Result<bool, AllocError>
     requires { buffer.old.have_output ≡ false }
     ensures closed { IfOk result (λ done. done ≡ true → buffer.new.have_output ≡ false) }
+    ensures refusal { IsRefusal false result buffer.new }
     ensures keeps { IfOk result (λ done. done ≡ true → KeepsClusters buffer.old buffer.new) }
     ensures stages { result ≡ Ok true → 0 < progress.new.search.budget.steps
         → IsPutInOrder face.now plan.now (now_of buffer.old progress.old) buffer.new }
@@ -129,6 +133,7 @@ fn apply_stages<F: FontFunctions, W: Watch>(
 ) -> Result<bool, AllocError>
     requires { buffer.old.have_output ≡ false }
     ensures closed { IfOk result (λ done. done ≡ true → buffer.new.have_output ≡ false) }
+    ensures refusal { IsRefusal false result buffer.new }
     ensures keeps { KeepsStage plan.now.syllables buffer.old buffer.new }
     ensures stages { result ≡ Ok true → 0 < progress.new.search.budget.steps
         → AreStagesDone face.now plan.now plan.now.shape.layout.stages.items 0 (now_of buffer.old progress.old)
@@ -184,6 +189,7 @@ fn apply_stage<W: Watch>(
     ensures unchanged { result ≡ Ok true → progress.new.has_changed ≡ false }
     ensures closed { IfOk result (λ done. done ≡ true → buffer.new.have_output ≡ false) }
     ensures spent { IsNotMore progress.old.search.budget progress.new.search.budget }
+    ensures refusal { IsRefusal false result buffer.new }
     ensures keeps { KeepsClusters buffer.old buffer.new }
 {
     for planned in lookups {
@@ -215,6 +221,7 @@ fn apply_planned(
     ensures unchanged { result ≡ Ok true → progress.new.has_changed ≡ false }
     ensures closed { IfOk result (λ done. done ≡ true → buffer.new.have_output ≡ false) }
     ensures spent { IsNotMore progress.old.search.budget progress.new.search.budget }
+    ensures refusal { IsRefusal false result buffer.new }
     ensures keeps { KeepsClusters buffer.old buffer.new }
 {
     prove!(buffer.out_len() == 0);
@@ -263,6 +270,7 @@ fn pause<F: FontFunctions>(
     ensures nothing { pause ≡ Pause.Nothing → (result ≡ Ok true) × (buffer.new ≡ buffer.old) × (progress.new ≡ progress.old) }
     ensures closed { IfOk result (λ done. done ≡ true → buffer.new.have_output ≡ false) }
     ensures spent { IsNotMore progress.old.search.budget progress.new.search.budget }
+    ensures refusal { IsRefusal false result buffer.new }
     ensures keeps { KeepsStage plan.now.syllables buffer.old buffer.new }
 {
     match pause {
@@ -292,6 +300,7 @@ fn join_by_fallback(
     requires { buffer.old.have_output ≡ false }
     ensures closed { IfOk result (λ done. done ≡ true → buffer.new.have_output ≡ false) }
     ensures spent { IsNotMore progress.old.search.budget progress.new.search.budget }
+    ensures refusal { IsRefusal false result buffer.new }
     ensures keeps { KeepsClusters buffer.old buffer.new }
 {
     match &plan.fallback {
@@ -310,6 +319,7 @@ fn apply_fallback(
     requires { buffer.old.have_output ≡ false }
     ensures closed { IfOk result (λ done. done ≡ true → buffer.new.have_output ≡ false) }
     ensures spent { IsNotMore progress.old.search.budget progress.new.search.budget }
+    ensures refusal { IsRefusal false result buffer.new }
     ensures keeps { KeepsClusters buffer.old buffer.new }
 {
     let list = LookupList::new(
@@ -339,6 +349,7 @@ fn apply_each(
     requires { buffer.old.have_output ≡ false }
     ensures closed { IfOk result (λ done. done ≡ true → buffer.new.have_output ≡ false) }
     ensures spent { IsNotMore progress.old.search.budget progress.new.search.budget }
+    ensures refusal { IsRefusal false result buffer.new }
     ensures keeps { KeepsClusters buffer.old buffer.new }
 {
     for index in 0..masks.len() {

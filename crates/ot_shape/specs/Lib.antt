@@ -1,5 +1,6 @@
 pub mod Glyphs
 pub mod ShapedClusters
+pub mod TooLong
 -- what is said of a plan, and of a font
 pub use Rattle.ot_plan.specs.Plans
 pub use Rattle.font_face.specs.Face

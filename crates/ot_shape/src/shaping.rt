@@ -7,8 +7,10 @@ ghost use Rattle.shaping_buffer.specs.Properties.{guessed};
 ghost use Rattle.shaping_buffer.specs.State.{HasPositions};
 ghost use Rattle.ot_characters.specs.Turned.{KeepsOrTurns};
 ghost use Rattle.ot_shape.specs.Glyphs.{glyph_of, in_place};
+ghost use Rattle.ot_shape.specs.TooLong.{IsTooLong};
 ghost use Rattle.ot_shape.specs.ShapedClusters.{ShapedClusters};
 ghost use Rattle.shaping_buffer.specs.KeepsClusters.{KeepsClusters};
+ghost use Rattle.shaping_passes.specs.Refusals.{IsRefusal};
 
 use crate::verified::shape_verified;
 use aat_substitution::remove_deleted_glyphs;
@@ -177,11 +179,15 @@ fn shape_buffer<F: FontFunctions, W: Watch>(
     ensures direction { IfOk result (λ done. done ≡ true
         → buffer.new.direction ≡ buffer.old.direction) }
     ensures clusters { IfOk result (λ done. done ≡ true → ShapedClusters buffer.old buffer.new) }
+    ensures refusal { IfOk result (λ done. done ≡ false → IsTooLong buffer.old.max_len buffer.new) }
 {
     prove!(buffer.out_len() == 0);
     let limit = buffer.max_len();
     let direction = buffer.direction;
-    if !make_glyphs(buffer, face, font, plan, features, watch)? || buffer.len() > limit {
+    if !make_glyphs(buffer, face, font, plan, features, watch)? {
+        return Ok(false);
+    }
+    if buffer.len() > limit {
         return Ok(false);
     }
     end_line(buffer, direction);
@@ -220,6 +226,7 @@ fn make_glyphs<F: FontFunctions, W: Watch>(
     ensures placed { IfOk result (λ done. done ≡ true → IsSome buffer.new.positions) }
     ensures runs { IfOk result (λ done. done ≡ true
         → KeepsOrTurns (not (is_forward buffer.old.direction)) buffer.old buffer.new) }
+    ensures refusal { IsRefusal false result buffer.new }
 {
     let direction = buffer.direction;
     if !begin_characters(buffer, font, plan)? {
@@ -281,6 +288,7 @@ fn shape_native<F: FontFunctions, W: Watch>(
     requires { buffer.old.have_output ≡ false }
     ensures closed { IfOk result (λ done. done ≡ true → buffer.new.have_output ≡ false) }
     ensures placed { IfOk result (λ done. done ≡ true → IsSome buffer.new.positions) }
+    ensures refusal { IsRefusal false result buffer.new }
     ensures keeps { IfOk result (λ done. done ≡ true → KeepsClusters buffer.old buffer.new) }
 {
     if !prepare_characters(buffer, face, font, line.plan, line.direction)? {
@@ -339,6 +347,7 @@ fn finish_glyphs<F: FontFunctions>(
     requires placed { IsSome buffer.old.positions }
     ensures closed { IfOk result (λ done. done ≡ true → buffer.new.have_output ≡ false) }
     ensures placed { IfOk result (λ done. done ≡ true → IsSome buffer.new.positions) }
+    ensures refusal { IsRefusal false result buffer.new }
     ensures keeps { KeepsClusters buffer.old buffer.new }
 {
     remove_deleted(buffer, plan);
@@ -364,6 +373,7 @@ fn stretch_marks<F: FontFunctions>(
     requires placed { IsSome buffer.old.positions }
     ensures closed { IfOk result (λ done. done ≡ true → buffer.new.have_output ≡ false) }
     ensures placed { IfOk result (λ done. done ≡ true → IsSome buffer.new.positions) }
+    ensures refusal { IsRefusal false result buffer.new }
     ensures keeps { KeepsClusters buffer.old buffer.new }
 {
     script.postprocess_glyphs(face.alloc, buffer, &FaceGlyphs { face, font })
@@ -392,6 +402,7 @@ fn begin_characters<F: FontFunctions>(
 ) -> Result<bool, AllocError>
     requires { buffer.old.have_output ≡ false }
     ensures closed { IfOk result (λ done. done ≡ true → buffer.new.have_output ≡ false) }
+    ensures refusal { IsRefusal false result buffer.new }
     ensures keeps { KeepsClusters buffer.old buffer.new }
 {
     buffer.reset_masks(plan.shape.layout.global_mask);
@@ -430,6 +441,7 @@ fn prepare_characters<F: FontFunctions>(
 ) -> Result<bool, AllocError>
     requires { buffer.old.have_output ≡ false }
     ensures closed { IfOk result (λ done. done ≡ true → buffer.new.have_output ≡ false) }
+    ensures refusal { IsRefusal false result buffer.new }
     ensures keeps { KeepsClusters buffer.old buffer.new }
 {
     if !plan

@@ -15,6 +15,7 @@ ghost use Rattle.script_shapers.specs.Shapers.{universal_of, is_for_others, want
 ghost use Rattle.script_shapers.specs.Shapers.{width_of, has_fallback, has_own_composite, own_composite, other_composite};
 ghost use Rattle.script_shapers.specs.Shapers.{has_own_parts, own_parts, shaper_with_morx};
 ghost use Rattle.script_shapers.specs.declared.shaper.ScriptShaper.TheVariants.{Default, Hebrew};
+ghost use Rattle.shaping_passes.specs.Refusals.{IsRefusal};
 
 use crate::plan::ScriptPlan;
 use rb_common::{Direction, Script, Tag, script};
@@ -308,6 +309,7 @@ impl ScriptPlan {
     ) -> Result<bool, AllocError>
         requires { buffer.old.have_output ≡ false }
         ensures closed { IfOk result (λ done. done ≡ true → buffer.new.have_output ≡ false) }
+        ensures refusal { IsRefusal false result buffer.new }
         ensures keeps { KeepsClusters buffer.old buffer.new }
     {
         match self.shaper {
@@ -381,6 +383,7 @@ impl ScriptPlan {
         requires placed { IsSome buffer.old.positions }
         ensures closed { IfOk result (λ done. done ≡ true → buffer.new.have_output ≡ false) }
         ensures placed { IfOk result (λ done. done ≡ true → IsSome buffer.new.positions) }
+        ensures refusal { IsRefusal false result buffer.new }
         ensures keeps { KeepsClusters buffer.old buffer.new }
     {
         if self.shaper == Arabic {

@@ -4,6 +4,7 @@ ghost use Rattle.std.specs.Prelude.{◌≡◌, true, false, IfOk};
 ghost use Rattle.shaping_buffer.specs.KeepsClusters.{KeepsClusters};
 ghost use Rattle.script_shapers.specs.Syllables.{is_plan_of};
 ghost use Rattle.script_syllables.specs.KeepsNumbers.{KeepsNumbers};
+ghost use Rattle.shaping_passes.specs.Refusals.{IsRefusal};
 
 use crate::shaper::ScriptShaper;
 use ot_map::{LayoutPlan, Pause};
@@ -57,6 +58,7 @@ impl SyllablePlan {
     ) -> Result<bool, AllocError>
         requires { buffer.old.have_output ≡ false }
         ensures closed { IfOk result (λ done. done ≡ true → buffer.new.have_output ≡ false) }
+        ensures refusal { IsRefusal false result buffer.new }
         ensures keeps { KeepsNumbers buffer.old buffer.new }
     {
         match self {

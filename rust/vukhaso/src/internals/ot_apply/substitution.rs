@@ -37,6 +37,7 @@ use crate::script_joining::FallbackLookups;
 ///
 /// ```text
 /// ensures closed { IfOk result (λ done. done ≡ true → buffer.new.have_output ≡ false) }
+/// ensures refusal { IsRefusal false result buffer.new }
 /// ensures keeps { IfOk result (λ done. done ≡ true → KeepsClusters buffer.old buffer.new) }
 /// ensures stages { result ≡ Ok true → plan.now.chain_flags ≡ None → buffer.new.shaping_failed ≡ false
 ///     → IsDoneByStages face.now plan.now buffer.old buffer.new }

@@ -86,6 +86,8 @@ pub(crate) struct SegmentProperties<'a> {
 ///     (scripts_of buffer.now.script buffer.now.language)) }
 /// ensures decides { IfOk result (IsDecided face.now buffer.now.direction buffer.now.script
 ///     (scripts_of buffer.now.script buffer.now.language)) }
+/// ensures asked { IfOk result (IsAskedFor face.now buffer.now.direction buffer.now.script
+///     (scripts_of buffer.now.script buffer.now.language) (language_tags buffer.now.language) features.now) }
 /// ```
 #[inline]
 pub fn plan_of_text<F: FontFunctions>(
@@ -125,6 +127,10 @@ pub(crate) fn plan_for<F: FontFunctions>(
 }
 
 /// The plan for a text with these properties.
+///
+/// # Requires
+///
+/// - `text.now.direction ≡ segment.now.direction`
 fn plan_of<F: FontFunctions>(
     face: &Face,
     font: &F,

@@ -58,6 +58,9 @@ impl ShapePlan {
     ///     (scripts_of script (option_copied language.entry)) plan.made) }
     /// ensures decides { IfOk result (λ plan. IsDecided face.now direction script
     ///     (scripts_of script (option_copied language.entry)) plan.made) }
+    /// ensures asked { IfOk result (λ plan. IsAskedFor face.now direction script
+    ///     (scripts_of script (option_copied language.entry)) (language_tags (option_copied language.entry))
+    ///     user_features.now plan.made) }
     /// ```
     #[inline]
     pub fn new(

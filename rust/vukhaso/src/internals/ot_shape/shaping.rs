@@ -205,7 +205,10 @@ fn shape_buffer<F: FontFunctions, W: Watch>(
     debug_assert!(buffer.out_len() == 0);
     let limit = buffer.max_len();
     let direction = buffer.direction;
-    if !make_glyphs(buffer, face, font, plan, features, watch)? || buffer.len() > limit {
+    if !make_glyphs(buffer, face, font, plan, features, watch)? {
+        return Ok(false);
+    }
+    if buffer.len() > limit {
         return Ok(false);
     }
     end_line(buffer, direction);

@@ -119,6 +119,7 @@ impl IndicPlan {
     ///
     /// ```text
     /// ensures closed { IfOk result (λ done. done ≡ true → buffer.new.have_output ≡ false) }
+    /// ensures refusal { IsRefusal false result buffer.new }
     /// ensures keeps { KeepsNumbers buffer.old buffer.new }
     /// ```
     #[inline]

@@ -332,6 +332,7 @@ impl ScriptPlan {
     ///
     /// ```text
     /// ensures closed { IfOk result (λ done. done ≡ true → buffer.new.have_output ≡ false) }
+    /// ensures refusal { IsRefusal false result buffer.new }
     /// ensures keeps { KeepsClusters buffer.old buffer.new }
     /// ```
     #[inline]
@@ -431,6 +432,7 @@ impl ScriptPlan {
     /// ```text
     /// ensures closed { IfOk result (λ done. done ≡ true → buffer.new.have_output ≡ false) }
     /// ensures placed { IfOk result (λ done. done ≡ true → IsSome buffer.new.positions) }
+    /// ensures refusal { IsRefusal false result buffer.new }
     /// ensures keeps { KeepsClusters buffer.old buffer.new }
     /// ```
     #[inline]
