@@ -350,15 +350,27 @@ fn finish_glyphs<F: FontFunctions>(
     ensures refusal { IsRefusal false result buffer.new }
     ensures keeps { KeepsClusters buffer.old buffer.new }
 {
-    remove_deleted(buffer, plan);
-    show_variation_selectors(buffer);
-    hide_ignorables(buffer, font);
+    hide_glyphs(buffer, font, plan);
     if !stretch_marks(buffer, face, font, &plan.script)? {
         return Ok(false);
     }
     mark_given_up(buffer);
     propagate_flags(buffer);
     Ok(true)
+}
+
+/// Takes out glyphs that were deleted, and hides what is not to be seen.
+#[tactic(auto, using(shaping_buffer::proofs::ClosedKeepsLemmas::kept))]
+fn hide_glyphs<F: FontFunctions>(buffer: &mut hb_buffer_t, font: &F, plan: &TextPlan)
+    requires closed { buffer.old.have_output ≡ false }
+    requires placed { IsSome buffer.old.positions }
+    ensures closed { buffer.new.have_output ≡ false }
+    ensures placed { IsSome buffer.new.positions }
+    ensures keeps { KeepsClusters buffer.old buffer.new }
+{
+    remove_deleted(buffer, plan);
+    show_variation_selectors(buffer);
+    hide_ignorables(buffer, font);
 }
 
 /// Stretches the marks of a text that is shaped, as the shaper of its script says. `Ok(false)` where a call was refused for length.

@@ -376,15 +376,27 @@ fn finish_glyphs<F: FontFunctions>(
 ) -> Result<bool, AllocError> {
     debug_assert!(!buffer.have_output());
     debug_assert!(buffer.have_positions());
-    remove_deleted(buffer, plan);
-    show_variation_selectors(buffer);
-    hide_ignorables(buffer, font);
+    hide_glyphs(buffer, font, plan);
     if !stretch_marks(buffer, face, font, &plan.script)? {
         return Ok(false);
     }
     mark_given_up(buffer);
     propagate_flags(buffer);
     Ok(true)
+}
+
+/// Takes out glyphs that were deleted, and hides what is not to be seen.
+///
+/// # Requires
+///
+/// - `closed: buffer.old.have_output ≡ false`
+/// - `placed: IsSome buffer.old.positions`
+fn hide_glyphs<F: FontFunctions>(buffer: &mut hb_buffer_t, font: &F, plan: &TextPlan) {
+    debug_assert!(!buffer.have_output());
+    debug_assert!(buffer.have_positions());
+    remove_deleted(buffer, plan);
+    show_variation_selectors(buffer);
+    hide_ignorables(buffer, font);
 }
 
 /// Stretches the marks of a text that is shaped, as the shaper of its script says.
