@@ -18,9 +18,10 @@ ghost use Rattle.ot_lookups.specs.LookupProps.{glyph_at};
 ghost use Rattle.ot_lookups.specs.NextAsked.{IsNextOf};
 ghost use Rattle.shaping_buffer.specs.KeepsClusters.{KeepsClusters};
 
+use crate::attachment::attach_mark;
 use crate::contexts::fit_at;
 use crate::cursive::place_cursive;
-use crate::marks::{LastBase, place_on_base, place_on_ligature, place_on_mark};
+use crate::marks::{LastBase, attachment_at};
 use crate::pairs::{place_pair, place_single};
 use crate::turn::{Setting, Turn};
 use ot_attachments::flags::{mark_break, mark_concat};
@@ -281,7 +282,6 @@ fn place_by_subtable<'a, P: ContourPoints>(
 }
 
 /// Positions the glyph by a subtable of this kind, which is no context.
-#[tactic(auto, using(crate::proofs::AttachmentLemmas::mark_placed_nothing))]
 fn place_by_simple<P: ContourPoints>(
     buffer: &mut hb_buffer_t,
     kind: u16,
@@ -303,10 +303,10 @@ fn place_by_simple<P: ContourPoints>(
         1 => place_single(buffer, turn),
         2 => place_pair(buffer, turn),
         3 => place_cursive(buffer, turn, points),
-        4 => place_on_base(buffer, turn, last, points),
-        5 => place_on_ligature(buffer, turn, last, points),
-        6 => place_on_mark(buffer, turn, points),
-        _ => None,
+        _ => {
+            let found = attachment_at(buffer.info(), kind, turn, last, points);
+            attach_mark(buffer, turn.place, &found)
+        }
     }
 }
 
