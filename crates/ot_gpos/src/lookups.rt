@@ -10,7 +10,7 @@ ghost use Rattle.ot_attachments.specs.Flags.{KeepsBits, untouched};
 ghost use Rattle.ot_gpos.specs.Lookups.{applied, is_simple, outcome, text_of};
 ghost use Rattle.ot_gpos.specs.Nested as others;
 ghost use Rattle.ot_gpos.specs.Nested.{IsOneTried, IsTried, IsVisited};
-ghost use Rattle.ot_gpos.specs.Runs.{IsPositioned, IsPositionedBy};
+ghost use Rattle.ot_gpos.specs.Runs.{IsPositioned};
 ghost use Rattle.ot_gpos.specs.Subtables.{bases_at, simple_at, simple_next};
 ghost use Rattle.ot_gpos.specs.Visit.{visit_of};
 ghost use Rattle.ot_lookups.specs.Lookup.{is_for};
@@ -85,11 +85,11 @@ pub fn position<P: ContourPoints>(
     prove!(buffer.out_len() == 0);
 }
 
-/// Positions the glyphs by a lookup, one after the other.
+/// Positions the glyphs by the lookup of this index, one after the other.
 fn place_all<'a, P: ContourPoints>(
     buffer: &mut hb_buffer_t,
     setting: &'a Setting<'a, P>,
-    lookup: u16,
+    index: u16,
     options: &'a LookupOptions,
     search: &mut Search,
 )
@@ -102,35 +102,13 @@ fn place_all<'a, P: ContourPoints>(
     ensures spent { IsNotMore search.old.budget search.new.budget }
     ensures exact { let list = setting.now.list.now in
         HasNoPixels setting.now.instance → 0 < search.new.budget.steps
-        → IsPositioned list (slice_get list.lookups.items lookup) options.now setting.now.instance
+        → IsPositioned list (slice_get list.lookups.items index) options.now setting.now.instance
         search.old.budget.nested buffer.old search.new.budget.nested buffer.new }
 {
-    let Some(lookup) = setting.list.lookup(lookup) else {
+    let Some(lookup) = setting.list.lookup(index) else {
         return;
     };
     search.budget.pay_for(1 + buffer.len() / PASSED_A_STEP);
-    place_by_all(buffer, setting, lookup, options, search);
-}
-
-/// Positions the glyphs by this lookup, one after the other.
-fn place_by_all<'a, P: ContourPoints>(
-    buffer: &mut hb_buffer_t,
-    setting: &'a Setting<'a, P>,
-    lookup: &'a Lookup<'a>,
-    options: &'a LookupOptions,
-    search: &mut Search,
-)
-    requires closed { buffer.old.have_output ≡ false }
-    requires placed { IsSome buffer.old.positions }
-    ensures closed { buffer.new.have_output ≡ false }
-    ensures placed { IsSome buffer.new.positions }
-    ensures rest { untouched buffer.new ≡ untouched buffer.old }
-    ensures flags { KeepsBits buffer.old.input buffer.new.input }
-    ensures spent { IsNotMore search.old.budget search.new.budget }
-    ensures exact { HasNoPixels setting.now.instance → 0 < search.new.budget.steps
-        → IsPositionedBy (applied setting.now.list.now lookup.now options.now setting.now.instance)
-        search.old.budget.nested buffer.old search.new.budget.nested buffer.new }
-{
     let mut last = LastBase::none();
     let mut next = 0;
     for _turn in 0..buffer.len() {
