@@ -278,7 +278,10 @@ fn pause<F: FontFunctions>(
             plan.script.record_stch(buffer);
             Ok(true)
         }
-        Pause::ArabicFallback => join_by_fallback(buffer, face, plan, progress),
+        Pause::ArabicFallback => match &plan.fallback {
+            Some(fallback) => apply_fallback(buffer, face, fallback, progress),
+            None => Ok(true),
+        },
         Pause::SetUpSyllables
         | Pause::InitialReordering
         | Pause::FinalReordering
@@ -289,27 +292,8 @@ fn pause<F: FontFunctions>(
     }
 }
 
-/// Joins Arabic letters of a font that has their forms as characters, and no features for them. `Ok(false)` where a call was refused
-/// for length.
-fn join_by_fallback(
-    buffer: &mut hb_buffer_t,
-    face: &Face,
-    plan: &TextPlan,
-    progress: &mut Progress,
-) -> Result<bool, AllocError>
-    requires { buffer.old.have_output ≡ false }
-    ensures closed { IfOk result (λ done. done ≡ true → buffer.new.have_output ≡ false) }
-    ensures spent { IsNotMore progress.old.search.budget progress.new.search.budget }
-    ensures refusal { IsRefusal false result buffer.new }
-    ensures keeps { KeepsClusters buffer.old buffer.new }
-{
-    match &plan.fallback {
-        Some(fallback) => apply_fallback(buffer, face, fallback, progress),
-        None => Ok(true),
-    }
-}
-
-/// Applies the lookups of a fallback. `Ok(false)` where a call was refused for length.
+/// Joins Arabic letters of a font that has their forms as characters, and no features for them, by the lookups of a fallback.
+/// `Ok(false)` where a call was refused for length.
 fn apply_fallback(
     buffer: &mut hb_buffer_t,
     face: &Face,

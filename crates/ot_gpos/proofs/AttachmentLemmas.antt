@@ -4,9 +4,7 @@ use Rattle.std.proofs.lemmas.Bool.{cond-true, cond-false, lt-ltb, le-ltb}
 use Rattle.font_tables.specs.Bytes.{number_16, is_number}
 use Rattle.font_tables.specs.declared.scale.Scale.{Scale}
 use Rattle.ot_gpos_tables.specs.Anchors.{named_point}
-use Rattle.shaping_buffer.specs.State.{State}
-use Rattle.ot_gpos.specs.Attachments.{last_place, mark_placed}
-use Rattle.ot_gpos.specs.declared.attachment.AttachmentFound.TheVariants.{Nothing}
+use Rattle.ot_gpos.specs.Attachments.{last_place}
 
 and_none : (b : Bool) → (b && false) ≡ false
 and_none true = refl
@@ -30,8 +28,3 @@ last_place_before test from k up fails = cond-false _ _ _ (le-ltb k from up) ∙
 pub last_place_none : (test : ℕ → Bool) (from k : ℕ) → k ≤ from → last_place test from k ≡ None
 last_place_none test from zero low = refl
 last_place_none test from (suc k) low = cond-true _ _ _ (lt-ltb k from low)
-
--- a mark of which nothing is found stays
-pub mark_placed_nothing : (place : ℕ) (s : State) → mark_placed place Nothing s ≡ s
-unfolding mark_placed
-mark_placed_nothing place s = refl

@@ -10,7 +10,7 @@ ghost use Rattle.ot_attachments.specs.Flags.{KeepsBits, untouched};
 ghost use Rattle.ot_gpos.specs.Lookups.{applied, is_simple, outcome, text_of};
 ghost use Rattle.ot_gpos.specs.Nested as others;
 ghost use Rattle.ot_gpos.specs.Nested.{IsOneTried, IsTried, IsVisited};
-ghost use Rattle.ot_gpos.specs.Runs.{IsPositioned, IsPositionedBy};
+ghost use Rattle.ot_gpos.specs.Runs.{IsPositioned};
 ghost use Rattle.ot_gpos.specs.Subtables.{bases_at, simple_at, simple_next};
 ghost use Rattle.ot_gpos.specs.Visit.{visit_of};
 ghost use Rattle.ot_lookups.specs.Lookup.{is_for};
@@ -18,9 +18,10 @@ ghost use Rattle.ot_lookups.specs.LookupProps.{glyph_at};
 ghost use Rattle.ot_lookups.specs.NextAsked.{IsNextOf};
 ghost use Rattle.shaping_buffer.specs.KeepsClusters.{KeepsClusters};
 
+use crate::attachment::attach_mark;
 use crate::contexts::fit_at;
 use crate::cursive::place_cursive;
-use crate::marks::{LastBase, place_on_base, place_on_ligature, place_on_mark};
+use crate::marks::{LastBase, attachment_at};
 use crate::pairs::{place_pair, place_single};
 use crate::turn::{Setting, Turn};
 use ot_attachments::flags::{mark_break, mark_concat};
@@ -84,11 +85,11 @@ pub fn position<P: ContourPoints>(
     prove!(buffer.out_len() == 0);
 }
 
-/// Positions the glyphs by a lookup, one after the other.
+/// Positions the glyphs by the lookup of this index, one after the other.
 fn place_all<'a, P: ContourPoints>(
     buffer: &mut hb_buffer_t,
     setting: &'a Setting<'a, P>,
-    lookup: u16,
+    index: u16,
     options: &'a LookupOptions,
     search: &mut Search,
 )
@@ -101,35 +102,13 @@ fn place_all<'a, P: ContourPoints>(
     ensures spent { IsNotMore search.old.budget search.new.budget }
     ensures exact { let list = setting.now.list.now in
         HasNoPixels setting.now.instance → 0 < search.new.budget.steps
-        → IsPositioned list (slice_get list.lookups.items lookup) options.now setting.now.instance
+        → IsPositioned list (slice_get list.lookups.items index) options.now setting.now.instance
         search.old.budget.nested buffer.old search.new.budget.nested buffer.new }
 {
-    let Some(lookup) = setting.list.lookup(lookup) else {
+    let Some(lookup) = setting.list.lookup(index) else {
         return;
     };
     search.budget.pay_for(1 + buffer.len() / PASSED_A_STEP);
-    place_by_all(buffer, setting, lookup, options, search);
-}
-
-/// Positions the glyphs by this lookup, one after the other.
-fn place_by_all<'a, P: ContourPoints>(
-    buffer: &mut hb_buffer_t,
-    setting: &'a Setting<'a, P>,
-    lookup: &'a Lookup<'a>,
-    options: &'a LookupOptions,
-    search: &mut Search,
-)
-    requires closed { buffer.old.have_output ≡ false }
-    requires placed { IsSome buffer.old.positions }
-    ensures closed { buffer.new.have_output ≡ false }
-    ensures placed { IsSome buffer.new.positions }
-    ensures rest { untouched buffer.new ≡ untouched buffer.old }
-    ensures flags { KeepsBits buffer.old.input buffer.new.input }
-    ensures spent { IsNotMore search.old.budget search.new.budget }
-    ensures exact { HasNoPixels setting.now.instance → 0 < search.new.budget.steps
-        → IsPositionedBy (applied setting.now.list.now lookup.now options.now setting.now.instance)
-        search.old.budget.nested buffer.old search.new.budget.nested buffer.new }
-{
     let mut last = LastBase::none();
     let mut next = 0;
     for _turn in 0..buffer.len() {
@@ -281,7 +260,6 @@ fn place_by_subtable<'a, P: ContourPoints>(
 }
 
 /// Positions the glyph by a subtable of this kind, which is no context.
-#[tactic(auto, using(crate::proofs::AttachmentLemmas::mark_placed_nothing))]
 fn place_by_simple<P: ContourPoints>(
     buffer: &mut hb_buffer_t,
     kind: u16,
@@ -303,10 +281,10 @@ fn place_by_simple<P: ContourPoints>(
         1 => place_single(buffer, turn),
         2 => place_pair(buffer, turn),
         3 => place_cursive(buffer, turn, points),
-        4 => place_on_base(buffer, turn, last, points),
-        5 => place_on_ligature(buffer, turn, last, points),
-        6 => place_on_mark(buffer, turn, points),
-        _ => None,
+        _ => {
+            let found = attachment_at(buffer.info(), kind, turn, last, points);
+            attach_mark(buffer, turn.place, &found)
+        }
     }
 }
 

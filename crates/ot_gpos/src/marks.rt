@@ -1,14 +1,14 @@
 //! Marks on bases, on ligatures and on marks (HarfBuzz, `MarkBasePos`, `MarkLigPos`, `MarkMarkPos`).
 
-ghost use Rattle.std.specs.Prelude.{◌≡◌, ◌<◌, None, false, true, length, nat_lt, if◌then◌else◌, IsSome, IfOk};
+ghost use Rattle.std.specs.Prelude.{◌≡◌, ◌<◌, None, false, true, length, nat_lt, if◌then◌else◌, IfOk};
 ghost use Rattle.ot_lookups.specs.LookupProps.{glyph_at};
 ghost use Rattle.ot_gpos.specs.Attachments as marks;
 ghost use Rattle.ot_gpos.specs.Attachments.{HasNoPixels, nothing_sought};
 ghost use Rattle.ot_gpos.specs.Bases.{counts, counts_at};
-ghost use Rattle.ot_attachments.specs.Flags.{KeepsBits, untouched};
+ghost use Rattle.ot_gpos.specs.Subtables.{attachment_at, bases_at};
 ghost use Rattle.ot_gpos.specs.Visit.{visit_of};
 
-use crate::attachment::{AttachmentFound, attach_mark, attachment_by};
+use crate::attachment::{AttachmentFound, attachment_by};
 use crate::ligatures::{are_of_one_part, is_first_of_many, ligature_row};
 use crate::turn::Turn;
 use font_tables::bytes::table_at_16;
@@ -18,7 +18,6 @@ use ot_layout::matcher::Matcher;
 use ot_layout::skipping_iterator::{Found, Skip, SkippingIterator};
 use ot_lookups::lookup_props::{LookupProps, covered_index};
 use rb_glyph::{Flags, GlyphPropsFlags, hb_glyph_info_t};
-use shaping_buffer::hb_buffer_t;
 
 /// The bits of a lookup's flag that pass over classes of glyphs.
 const IGNORED_CLASSES: u16 = 0x000E;
@@ -47,26 +46,24 @@ impl LastBase {
     }
 }
 
-/// Attaches a mark to the last base before it.
-pub(crate) fn place_on_base<P: ContourPoints>(
-    buffer: &mut hb_buffer_t,
+/// Where a subtable of this kind attaches its mark: to the last base before it, to a component of the last ligature, or to the mark
+/// before it.
+pub(crate) fn attachment_at<P: ContourPoints>(
+    glyphs: &[hb_glyph_info_t],
+    kind: u16,
     turn: &Turn,
     last: &mut LastBase,
     points: &P,
-) -> Option<usize>
-    requires closed { buffer.old.have_output ≡ false }
-    requires placed { IsSome buffer.old.positions }
-    ensures last { last.new ≡ marks.base_sought true (visit_of turn.now) buffer.old.input last.old }
-    ensures next { HasNoPixels turn.now.instance.now → result ≡ marks.mark_next turn.now.place (marks.base_of (visit_of turn.now) buffer.old.input last.new) }
-    ensures is { HasNoPixels turn.now.instance.now
-        → buffer.new ≡ marks.mark_placed turn.now.place (marks.base_of (visit_of turn.now) buffer.old.input last.new) buffer.old }
-    ensures closed { buffer.new.have_output ≡ false }
-    ensures placed { IsSome buffer.new.positions }
-    ensures rest { untouched buffer.new ≡ untouched buffer.old }
-    ensures flags { KeepsBits buffer.old.input buffer.new.input }
+) -> AttachmentFound
+    ensures last { last.new ≡ bases_at kind (visit_of turn.now) glyphs.now last.old }
+    ensures is { HasNoPixels turn.now.instance.now → result ≡ attachment_at kind (visit_of turn.now) glyphs.now last.old }
 {
-    let found = base_of(buffer.info(), turn, last, points);
-    attach_mark(buffer, turn.place, &found)
+    match kind {
+        4 => base_of(glyphs, turn, last, points),
+        5 => ligature_of(glyphs, turn, last, points),
+        6 => mark_of(glyphs, turn, points),
+        _ => AttachmentFound::Nothing,
+    }
 }
 
 /// The attachment to a base.
@@ -92,28 +89,6 @@ fn bases_of<'a>(turn: &Turn<'a>) -> &'a [u8]
     ensures { result.now ≡ marks.bases_of (visit_of turn.now) }
 {
     table_at_16(turn.subtable.table, 10).unwrap_or(&[])
-}
-
-/// Attaches a mark to a component of the last ligature before it.
-pub(crate) fn place_on_ligature<P: ContourPoints>(
-    buffer: &mut hb_buffer_t,
-    turn: &Turn,
-    last: &mut LastBase,
-    points: &P,
-) -> Option<usize>
-    requires closed { buffer.old.have_output ≡ false }
-    requires placed { IsSome buffer.old.positions }
-    ensures last { last.new ≡ marks.base_sought false (visit_of turn.now) buffer.old.input last.old }
-    ensures next { HasNoPixels turn.now.instance.now → result ≡ marks.mark_next turn.now.place (marks.ligature_of (visit_of turn.now) buffer.old.input last.new) }
-    ensures is { HasNoPixels turn.now.instance.now
-        → buffer.new ≡ marks.mark_placed turn.now.place (marks.ligature_of (visit_of turn.now) buffer.old.input last.new) buffer.old }
-    ensures closed { buffer.new.have_output ≡ false }
-    ensures placed { IsSome buffer.new.positions }
-    ensures rest { untouched buffer.new ≡ untouched buffer.old }
-    ensures flags { KeepsBits buffer.old.input buffer.new.input }
-{
-    let found = ligature_of(buffer.info(), turn, last, points);
-    attach_mark(buffer, turn.place, &found)
 }
 
 /// The attachment to a ligature.
@@ -151,26 +126,6 @@ fn row_of(glyphs: &[hb_glyph_info_t], matrix: &[u8], ligature: usize, mark: usiz
     } else {
         None
     }
-}
-
-/// Attaches a mark to the mark before it.
-pub(crate) fn place_on_mark<P: ContourPoints>(
-    buffer: &mut hb_buffer_t,
-    turn: &Turn,
-    points: &P,
-) -> Option<usize>
-    requires closed { buffer.old.have_output ≡ false }
-    requires placed { IsSome buffer.old.positions }
-    ensures next { HasNoPixels turn.now.instance.now → result ≡ marks.mark_next turn.now.place (marks.mark_of (visit_of turn.now) buffer.old.input) }
-    ensures is { HasNoPixels turn.now.instance.now
-        → buffer.new ≡ marks.mark_placed turn.now.place (marks.mark_of (visit_of turn.now) buffer.old.input) buffer.old }
-    ensures closed { buffer.new.have_output ≡ false }
-    ensures placed { IsSome buffer.new.positions }
-    ensures rest { untouched buffer.new ≡ untouched buffer.old }
-    ensures flags { KeepsBits buffer.old.input buffer.new.input }
-{
-    let found = mark_of(buffer.info(), turn, points);
-    attach_mark(buffer, turn.place, &found)
 }
 
 /// The attachment to a mark.

@@ -280,7 +280,10 @@ fn pause<F: FontFunctions>(
             plan.script.record_stch(buffer);
             Ok(true)
         }
-        Pause::ArabicFallback => join_by_fallback(buffer, face, plan, progress),
+        Pause::ArabicFallback => match &plan.fallback {
+            Some(fallback) => apply_fallback(buffer, face, fallback, progress),
+            None => Ok(true),
+        },
         Pause::SetUpSyllables
         | Pause::InitialReordering
         | Pause::FinalReordering
@@ -291,29 +294,8 @@ fn pause<F: FontFunctions>(
     }
 }
 
-/// Joins Arabic letters of a font that has their forms as characters, and no features for them.
-///
-/// # Requires
-///
-/// - `buffer.old.have_output ≡ false`
-///
-/// # Errors
-///
-/// `Ok(false)` where a call was refused for length.
-fn join_by_fallback(
-    buffer: &mut hb_buffer_t,
-    face: &Face,
-    plan: &TextPlan,
-    progress: &mut Progress,
-) -> Result<bool, AllocError> {
-    debug_assert!(!buffer.have_output());
-    match &plan.fallback {
-        Some(fallback) => apply_fallback(buffer, face, fallback, progress),
-        None => Ok(true),
-    }
-}
-
-/// Applies the lookups of a fallback.
+/// Joins Arabic letters of a font that has their forms as characters, and no features for them, by the
+/// lookups of a fallback.
 ///
 /// # Requires
 ///

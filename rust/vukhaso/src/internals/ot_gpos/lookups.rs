@@ -7,9 +7,10 @@ use crate::buffer::hb_buffer_t;
 use crate::glyph::hb_glyph_info_t;
 use crate::ot_attachments::flags::{mark_break, mark_concat};
 use crate::ot_contexts::context::Fit;
+use crate::ot_gpos::attachment::attach_mark;
 use crate::ot_gpos::contexts::fit_at;
 use crate::ot_gpos::cursive::place_cursive;
-use crate::ot_gpos::marks::{LastBase, place_on_base, place_on_ligature, place_on_mark};
+use crate::ot_gpos::marks::{LastBase, attachment_at};
 use crate::ot_gpos::pairs::{place_pair, place_single};
 use crate::ot_gpos::turn::{Setting, Turn};
 use crate::ot_gpos_tables::contour_points::ContourPoints;
@@ -78,7 +79,7 @@ pub fn position<P: ContourPoints>(
     debug_assert!(buffer.out_len() == 0);
 }
 
-/// Positions the glyphs by a lookup, one after the other.
+/// Positions the glyphs by the lookup of this index, one after the other.
 ///
 /// # Requires
 ///
@@ -87,34 +88,16 @@ pub fn position<P: ContourPoints>(
 fn place_all<'a, P: ContourPoints>(
     buffer: &mut hb_buffer_t,
     setting: &'a Setting<'a, P>,
-    lookup: u16,
+    index: u16,
     options: &'a LookupOptions,
     search: &mut Search,
 ) {
     debug_assert!(!buffer.have_output());
     debug_assert!(buffer.have_positions());
-    let Some(lookup) = setting.list.lookup(lookup) else {
+    let Some(lookup) = setting.list.lookup(index) else {
         return;
     };
     search.budget.pay_for(1 + buffer.len() / PASSED_A_STEP);
-    place_by_all(buffer, setting, lookup, options, search);
-}
-
-/// Positions the glyphs by this lookup, one after the other.
-///
-/// # Requires
-///
-/// - `closed: buffer.old.have_output ≡ false`
-/// - `placed: IsSome buffer.old.positions`
-fn place_by_all<'a, P: ContourPoints>(
-    buffer: &mut hb_buffer_t,
-    setting: &'a Setting<'a, P>,
-    lookup: &'a Lookup<'a>,
-    options: &'a LookupOptions,
-    search: &mut Search,
-) {
-    debug_assert!(!buffer.have_output());
-    debug_assert!(buffer.have_positions());
     let mut last = LastBase::none();
     let mut next = 0;
     for _turn in 0..buffer.len() {
@@ -257,10 +240,10 @@ fn place_by_simple<P: ContourPoints>(
         1 => place_single(buffer, turn),
         2 => place_pair(buffer, turn),
         3 => place_cursive(buffer, turn, points),
-        4 => place_on_base(buffer, turn, last, points),
-        5 => place_on_ligature(buffer, turn, last, points),
-        6 => place_on_mark(buffer, turn, points),
-        _ => None,
+        _ => {
+            let found = attachment_at(buffer.info(), kind, turn, last, points);
+            attach_mark(buffer, turn.place, &found)
+        }
     }
 }
 

@@ -2,10 +2,9 @@
 
 //! Marks on bases, on ligatures and on marks (HarfBuzz, `MarkBasePos`, `MarkLigPos`, `MarkMarkPos`).
 
-use crate::buffer::hb_buffer_t;
 use crate::font_tables::bytes::table_at_16;
 use crate::glyph::{GlyphPropsFlags, hb_glyph_info_t};
-use crate::ot_gpos::attachment::{AttachmentFound, attach_mark, attachment_by};
+use crate::ot_gpos::attachment::{AttachmentFound, attachment_by};
 use crate::ot_gpos::ligatures::{are_of_one_part, is_first_of_many, ligature_row};
 use crate::ot_gpos::turn::Turn;
 use crate::ot_gpos_tables::anchors::ligature_matrix;
@@ -39,22 +38,21 @@ impl LastBase {
     }
 }
 
-/// Attaches a mark to the last base before it.
-///
-/// # Requires
-///
-/// - `closed: buffer.old.have_output ≡ false`
-/// - `placed: IsSome buffer.old.positions`
-pub(crate) fn place_on_base<P: ContourPoints>(
-    buffer: &mut hb_buffer_t,
+/// Where a subtable of this kind attaches its mark: to the last base before it, to a component of the
+/// last ligature, or to the mark before it.
+pub(crate) fn attachment_at<P: ContourPoints>(
+    glyphs: &[hb_glyph_info_t],
+    kind: u16,
     turn: &Turn,
     last: &mut LastBase,
     points: &P,
-) -> Option<usize> {
-    debug_assert!(!buffer.have_output());
-    debug_assert!(buffer.have_positions());
-    let found = base_of(buffer.info(), turn, last, points);
-    attach_mark(buffer, turn.place, &found)
+) -> AttachmentFound {
+    match kind {
+        4 => base_of(glyphs, turn, last, points),
+        5 => ligature_of(glyphs, turn, last, points),
+        6 => mark_of(glyphs, turn, points),
+        _ => AttachmentFound::Nothing,
+    }
 }
 
 /// The attachment to a base.
@@ -74,24 +72,6 @@ fn base_of<P: ContourPoints>(
 /// The table of what marks are attached to: bases, ligatures or marks.
 fn bases_of<'a>(turn: &Turn<'a>) -> &'a [u8] {
     table_at_16(turn.subtable.table, 10).unwrap_or(&[])
-}
-
-/// Attaches a mark to a component of the last ligature before it.
-///
-/// # Requires
-///
-/// - `closed: buffer.old.have_output ≡ false`
-/// - `placed: IsSome buffer.old.positions`
-pub(crate) fn place_on_ligature<P: ContourPoints>(
-    buffer: &mut hb_buffer_t,
-    turn: &Turn,
-    last: &mut LastBase,
-    points: &P,
-) -> Option<usize> {
-    debug_assert!(!buffer.have_output());
-    debug_assert!(buffer.have_positions());
-    let found = ligature_of(buffer.info(), turn, last, points);
-    attach_mark(buffer, turn.place, &found)
 }
 
 /// The attachment to a ligature.
@@ -126,23 +106,6 @@ fn row_of(glyphs: &[hb_glyph_info_t], matrix: &[u8], ligature: usize, mark: usiz
     } else {
         None
     }
-}
-
-/// Attaches a mark to the mark before it.
-///
-/// # Requires
-///
-/// - `closed: buffer.old.have_output ≡ false`
-/// - `placed: IsSome buffer.old.positions`
-pub(crate) fn place_on_mark<P: ContourPoints>(
-    buffer: &mut hb_buffer_t,
-    turn: &Turn,
-    points: &P,
-) -> Option<usize> {
-    debug_assert!(!buffer.have_output());
-    debug_assert!(buffer.have_positions());
-    let found = mark_of(buffer.info(), turn, points);
-    attach_mark(buffer, turn.place, &found)
 }
 
 /// The attachment to a mark.

@@ -5,7 +5,7 @@ use Rattle.ot_gpos.specs.Attachments.{HasNoPixels, nothing_sought}
 use Rattle.ot_attachments.specs.Flags.{KeepsBits, untouched}
 use Rattle.ot_gpos.specs.Lookups.{applied, text_of}
 use Rattle.ot_gpos.proofs.RunsLemmas.{IsUnderWay}
-use Rattle.ot_gpos.proofs.lookups.place_by_all.Given as goal
+use Rattle.ot_gpos.proofs.lookups.place_all.Given as goal
 
 -- the glyphs before the place where the lookup goes on are done
 abbrev pub invariant-loop-turn : goal.invariant-loop-turn
