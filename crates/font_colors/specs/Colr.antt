@@ -1,5 +1,5 @@
 -- Boxes that glyphs drawn in colours are clipped to (OpenType specification, "COLR - Color Table", "ClipList table").
-use Rattle.std.specs.Prelude.{ℕ, ℤ, pos, List, [], Bool, false, Option, Some, None, ◌+◌, ◌*◌, ◌%◌, ◌^◌, ◌-ℤ◌, nat_eq, nat_lt, length, drop, if◌then◌else◌}
+use Rattle.std.specs.Prelude.{ℕ, ℤ, List, [], Bool, false, Option, Some, None, ◌+◌, ◌*◌, ◌%◌, ◌^◌, ◌-ℤ◌, nat_eq, nat_lt, length, drop, if◌then◌else◌}
 use Rattle.std.specs.Prelude.{option_map, option_and_then, unwrap_or}
 use Rattle.std.specs.Int.{saturate_signed, w32}
 use Rattle.std.specs.Float.{float_to_signed}
@@ -9,6 +9,7 @@ use Rattle.font_tables.specs.Rows.{first_row, rows_within, is_within}
 use Rattle.font_variations.specs.IndexMap.{index_of}
 use Rattle.font_variations.specs.Rounding.{rounded}
 use Rattle.font_variations.specs.VariationStore.{delta}
+use Rattle.font_gvar.specs.Glyf.{empty_box}
 use Rattle.rb_glyph.specs.declared.names.GlyphExtents.{GlyphExtents}
 
 -- the table that an offset of 32 bits of a version from 1 on leads to
@@ -77,9 +78,6 @@ box_of_sides box colr coordinates =
     (side box colr coordinates 3)) (side box colr coordinates 2)) (side box colr coordinates 1)) (side box colr coordinates 0)
 
 -- a box of an unknown format is empty
-abbrev pub empty_box : GlyphExtents
-empty_box = record { x_bearing = pos 0; y_bearing = pos 0; width = pos 0; height = pos 0 }
-
 abbrev pub box_of : List ℕ → List ℕ → List ℤ → Option GlyphExtents
 box_of box colr coordinates =
     if is_number (byte_at box 0) 1 then box_of_sides box colr coordinates

@@ -1,14 +1,8 @@
 -- Boxes of what is drawn.
-use Rattle.std.specs.Prelude.{Bool, ◌||◌, if◌then◌else◌}
-use Rattle.std.specs.Float.Ieee.{Float, le}
+use Rattle.std.specs.Prelude.{Bool, ◌||◌}
+use Rattle.std.specs.Float.Ieee.{le}
+use Rattle.font_variations.specs.Rounding.{greater, lesser}
 use Rattle.font_colors.specs.declared.extents.Extents.{Extents}
-
--- the lesser and the greater of two floats; the second one where they are not ordered
-abbrev pub lesser : Float → Float → Float
-lesser one other = if le one other then one else other
-
-abbrev pub greater : Float → Float → Float
-greater one other = if le other one then one else other
 
 -- the least box around two
 abbrev pub joined : Extents → Extents → Extents

@@ -50,7 +50,7 @@ impl<'p> Painter<'p> {
     /// time; where these are none, it paints nothing.
     fn clipped_twice(self, glyph: GlyphId, paint: &'p [u8]) -> Result<Bounds, AllocError> {
         let first = self.root_bounds(glyph, paint, &CANVAS)?;
-        if first.status == Status::Unbounded {
+        if matches!(first.status, Status::Unbounded) {
             return Ok(Bounds::EMPTY);
         }
         self.root_bounds(glyph, paint, &CANVAS.clipped(&first.extents))

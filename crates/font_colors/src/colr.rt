@@ -4,6 +4,7 @@ ghost use Rattle.std.specs.Prelude.{◌≡◌, ◌<◌, ◌≤◌, IsTrue};
 ghost use Rattle.font_tables.specs.Rows.{Rises};
 ghost use Rattle.font_colors.specs.Colr.{box_between, box_of, box_of_sides, clip_bytes, clip_count, clip_list, clip_of, delta_set, distance, last_glyph, moved, part_at, side, varies};
 
+use font_gvar::glyf::NO_BOX;
 use font_tables::bytes::{i16_at, table_at_32, tail, u8_at, u16_at, u24_at, u32_at};
 use font_tables::rows::{Keys16, first_row, rises, rows_within};
 use font_variations::VariationStore;
@@ -126,13 +127,6 @@ fn box_of(bytes: &[u8], colr: &[u8], coordinates: &[i32]) -> Option<GlyphExtents
         _ => Some(NO_BOX),
     }
 }
-
-const NO_BOX: GlyphExtents = GlyphExtents {
-    x_bearing: 0,
-    y_bearing: 0,
-    width: 0,
-    height: 0,
-};
 
 /// A box of the two formats, by its sides.
 fn box_of_sides(bytes: &[u8], colr: &[u8], coordinates: &[i32]) -> Option<GlyphExtents>

@@ -1,7 +1,8 @@
 //! Boxes of what is drawn, in floats of 32 bits as HarfBuzz has them.
 
 ghost use Rattle.std.specs.Prelude.{◌≡◌};
-ghost use Rattle.font_colors.specs.Extents.{greater, lesser};
+
+use font_variations::rounding::{greater, lesser};
 
 /// A box of what is drawn. One around nothing ends before it begins, as `Extents::VOID`.
 #[derive(Clone, Copy)]
@@ -77,18 +78,4 @@ impl Extents {
             self.joined(&point)
         }
     }
-}
-
-/// The lesser of two floats.
-fn lesser(one: f32, other: f32) -> f32
-    ensures { result ≡ lesser one other }
-{
-    if one <= other { one } else { other }
-}
-
-/// The greater of two floats.
-fn greater(one: f32, other: f32) -> f32
-    ensures { result ≡ greater one other }
-{
-    if one >= other { one } else { other }
 }

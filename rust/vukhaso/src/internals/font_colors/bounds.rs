@@ -5,7 +5,7 @@
 use crate::font_colors::extents::Extents;
 
 /// How far what is painted reaches.
-#[derive(Clone, Copy, PartialEq, Eq, Debug)]
+#[derive(Clone, Copy, Debug)]
 pub(crate) enum Status {
     /// Everywhere.
     Unbounded,

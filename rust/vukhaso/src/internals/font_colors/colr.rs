@@ -3,6 +3,7 @@
 //! Boxes that glyphs drawn in colours are clipped to (OpenType specification, "COLR - Color Table", "ClipList table").
 
 use crate::common::GlyphId;
+use crate::font_gvar::glyf::NO_BOX;
 use crate::font_tables::bytes::{i16_at, table_at_32, tail, u8_at, u16_at, u24_at, u32_at};
 use crate::font_tables::rows::{Keys16, first_row, rises, rows_within};
 use crate::font_variations::VariationStore;
@@ -126,13 +127,6 @@ fn box_of(bytes: &[u8], colr: &[u8], coordinates: &[i32]) -> Option<GlyphExtents
         _ => Some(NO_BOX),
     }
 }
-
-const NO_BOX: GlyphExtents = GlyphExtents {
-    x_bearing: 0,
-    y_bearing: 0,
-    width: 0,
-    height: 0,
-};
 
 /// A box of the two formats, by its sides.
 fn box_of_sides(bytes: &[u8], colr: &[u8], coordinates: &[i32]) -> Option<GlyphExtents> {

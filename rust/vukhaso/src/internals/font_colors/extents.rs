@@ -2,6 +2,8 @@
 
 //! Boxes of what is drawn, in floats of 32 bits as HarfBuzz has them.
 
+use crate::font_variations::rounding::{greater, lesser};
+
 /// A box of what is drawn. One around nothing ends before it begins, as `Extents::VOID`.
 #[derive(Clone, Copy, Debug)]
 pub(crate) struct Extents {
@@ -68,14 +70,4 @@ impl Extents {
             self.joined(&point)
         }
     }
-}
-
-/// The lesser of two floats.
-fn lesser(one: f32, other: f32) -> f32 {
-    if one <= other { one } else { other }
-}
-
-/// The greater of two floats.
-fn greater(one: f32, other: f32) -> f32 {
-    if one >= other { one } else { other }
 }
