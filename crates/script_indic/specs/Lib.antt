@@ -1,5 +1,6 @@
 pub mod Composition
 pub mod IndicFeatures
 pub mod Placed
+pub mod Plans
 pub mod Scripts
 pub mod Stages

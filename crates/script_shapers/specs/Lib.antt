@@ -1,3 +1,4 @@
+pub mod ScriptPlans
 pub mod Shapers
 pub mod Stages
 pub mod Syllables

@@ -3,6 +3,7 @@
 
 ghost use Rattle.std.specs.Prelude.{◌≡◌};
 ghost use Rattle.glyph_lists.specs.Clusters.{clusters};
+ghost use Rattle.script_syllables.specs.Items as items;
 
 use crate::category::Category;
 use crate::category::position::Position;
@@ -10,7 +11,9 @@ use crate::category::search::category_of;
 use rb_glyph::{Flags, GlyphPropsFlags, hb_glyph_info_t};
 
 /// The byte of an item's category.
-pub fn category_byte(info: &hb_glyph_info_t) -> u8 {
+pub fn category_byte(info: &hb_glyph_info_t) -> u8
+    ensures { result ≡ items.category_byte info.now }
+{
     (info.var2 / 0x1_0000 % 0x100) as u8
 }
 
@@ -89,17 +92,23 @@ pub fn add_mask(infos: &mut [hb_glyph_info_t], start: usize, end: usize, mask: u
 }
 
 /// Whether a glyph has one of these properties.
-pub fn has(info: &hb_glyph_info_t, properties: GlyphPropsFlags) -> bool {
+pub fn has(info: &hb_glyph_info_t, properties: GlyphPropsFlags) -> bool
+    ensures { result ≡ items.has info.now properties.0 }
+{
     info.glyph_props() & properties.bits() != 0
 }
 
 /// Whether a lookup put the glyph there.
-pub fn is_substituted(info: &hb_glyph_info_t) -> bool {
+pub fn is_substituted(info: &hb_glyph_info_t) -> bool
+    ensures { result ≡ items.has info.now 0x10 }
+{
     has(info, GlyphPropsFlags::SUBSTITUTED)
 }
 
 /// Whether the glyph is a ligature that a lookup made.
-pub fn is_ligated(info: &hb_glyph_info_t) -> bool {
+pub fn is_ligated(info: &hb_glyph_info_t) -> bool
+    ensures { result ≡ items.has info.now 0x20 }
+{
     has(info, GlyphPropsFlags::LIGATED)
 }
 

@@ -1,4 +1,5 @@
 pub mod Composition
+pub mod Plans
 pub mod Scripts
 pub mod Stages
 pub mod KhmerFeatures

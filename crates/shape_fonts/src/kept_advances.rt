@@ -1,7 +1,7 @@
 //! Advances of glyphs that are kept from line to line. At a place in the variations of a font each may cost as much as an outline has
 //! points, or a font has regions.
 
-ghost use Rattle.std.specs.Prelude.{◌<◌};
+ghost use Rattle.std.specs.Prelude.{◌≡◌, ◌<◌};
 ghost use Rattle.shape_fonts.specs.KeptAdvances.{AreOwn};
 
 use font_face::Face;
@@ -32,7 +32,9 @@ pub struct KeptAdvances<'a> {
 
 impl<'a> KeptAdvances<'a> {
     /// A font of which no advance is kept yet.
-    pub fn new(face: &'a Face<'a>) -> Self {
+    pub fn new(face: &'a Face<'a>) -> Self
+        ensures { result.own.face.now ≡ face.now }
+    {
         KeptAdvances {
             own: OwnFunctions { face },
             kept: [None; KEPT],
@@ -75,9 +77,11 @@ fn place_of(glyph: GlyphId) -> usize
 }
 
 impl FontFunctions for KeptAdvances<'_> {
-    ghost use Rattle.font_functions.specs.OwnFunctions.{has_glyph, IsOwnAdvance};
+    ghost use Rattle.font_functions.specs.OwnFunctions.{has_glyph, IsOwnAdvance, IsOwnGlyph};
 
     ghost has = { λ kept. has_glyph kept.own.face.now };
+
+    ghost may_have = { λ kept. IsOwnGlyph kept.own.face.now };
 
     ghost may_advance = { λ kept. IsOwnAdvance kept.own.face.now };
 
