@@ -1,7 +1,8 @@
 -- What the plans of Khmer and of the universal shaper take from a font's features (HarfBuzz, `data_create_khmer`, `data_create_use`,
 -- `setup_topographical_masks`).
-use Rattle.std.specs.Prelude.{◌≡◌, ℕ, Bool, true, false, ◌==◌, codes, if◌then◌else◌}
+use Rattle.std.specs.Prelude.{◌≡◌, ℕ, Bool, true, false, ◌==◌, ◌||◌, ◌-◌, bit_and, bit_or, codes, nat_le, if◌then◌else◌}
 use Rattle.rb_common.specs.Tag.{tag_of}
+use Rattle.rb_glyph.specs.declared.info.hb_glyph_info_t.{hb_glyph_info_t}
 use Rattle.ot_map.specs.declared.plan.LayoutPlan.{LayoutPlan}
 use Rattle.script_syllables.specs.PlannedFeatures.{IsOneMask}
 use Rattle.script_universal.specs.declared.khmer.plan.KhmerPlan.{KhmerPlan}
@@ -34,3 +35,16 @@ pub record HasForms (joins : Bool) (layout : LayoutPlan) (forms : FormMasks) : T
 pub record IsUniversalPlan (joins : Bool) (layout : LayoutPlan) (plan : UniversalPlan) : Type 0 where
   pub rphf : IsOneMask layout (tag_of (codes "rphf")) plan.rphf
   pub forms : HasForms joins layout plan.forms
+
+-- ---- forms of syllables by where they stand in a word
+
+-- syllables of all kinds join but hieroglyphs, and what is no syllable
+abbrev pub joins : ℕ → Bool
+joins kind = nat_le kind 5 || kind == 7
+
+abbrev pub all_forms : FormMasks → ℕ
+all_forms forms = bit_or (bit_or (bit_or forms.isol forms.init) forms.medi) forms.fina
+
+-- an item with the mask of a form, and without those of the others
+abbrev pub with_form : FormMasks → ℕ → hb_glyph_info_t → hb_glyph_info_t
+with_form forms mask g = record g { mask = bit_or (bit_and g.mask (4294967295 - all_forms forms)) mask }

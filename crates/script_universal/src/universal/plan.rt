@@ -1,8 +1,9 @@
 //! How a text of the universal shaper is shaped by a font.
 
-ghost use Rattle.std.specs.Prelude.{◌≡◌, true, false, IfOk, bit_or};
+ghost use Rattle.std.specs.Prelude.{◌≡◌, true, false, IfOk};
 ghost use Rattle.shaping_buffer.specs.KeepsClusters.{KeepsClusters};
 ghost use Rattle.script_syllables.specs.KeepsNumbers.{KeepsNumbers};
+ghost use Rattle.script_universal.specs.Plans.{all_forms};
 ghost use Rattle.shaping_passes.specs.Refusals.{IsRefusal};
 
 use crate::universal::item::mark_passed_over;
@@ -61,7 +62,7 @@ pub struct FormMasks {
 impl FormMasks {
     /// Those of all forms.
     pub fn all(&self) -> u32
-        ensures { result ≡ bit_or (bit_or (bit_or self.now.isol self.now.init) self.now.medi) self.now.fina }
+        ensures { result ≡ all_forms self.now }
     {
         self.isol | self.init | self.medi | self.fina
     }

@@ -1,0 +1,13 @@
+-- Items of a range that are given a form stay in their clusters.
+use Rattle.std.proofs.Common.{◌≡◌, ◌≤◌, ℕ, List, refl}
+use Rattle.rb_glyph.specs.declared.info.hb_glyph_info_t.{hb_glyph_info_t}
+use Rattle.glyph_lists.specs.Clusters.{clusters}
+use Rattle.glyph_lists.specs.Parts.{map_range}
+use Rattle.glyph_lists.proofs.PartsLemmas.{map-map_range}
+use Rattle.script_universal.specs.Plans.{with_form}
+use Rattle.script_universal.specs.declared.universal.plan.FormMasks.{FormMasks}
+
+pub clusters_within : (forms : FormMasks) (mask : ℕ) (l : List hb_glyph_info_t) (start end : ℕ) → start ≤ end
+    → clusters (map_range (with_form forms mask) l start end) ≡ clusters l
+clusters_within forms mask l start end up =
+    map-map_range (λ g. g.cluster) (with_form forms mask) (λ g. refl) l start end up
