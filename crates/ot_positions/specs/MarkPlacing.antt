@@ -1,9 +1,9 @@
 -- Where marks stand around a base, by the bounds of both and by combining classes (HarfBuzz, `position_around_base`, `position_mark`;
 -- Unicode Standard, "Combining Classes").
-use Rattle.std.specs.Prelude.{◌≡◌, ℕ, ℤ, pos, negsuc, Bool, not, ◌==◌, ◌||◌, ◌-ℤ◌, int_div, int_le, int_lt, nat_lt, Option, None, Some, if◌then◌else◌}
+use Rattle.std.specs.Prelude.{◌≡◌, ℕ, ℤ, pos, negsuc, Bool, true, false, not, ◌==◌, ◌||◌, ◌-ℤ◌, int_div, int_le, int_lt, nat_lt, Option, None, Some, if◌then◌else◌}
 use Rattle.std.specs.Int.{w32, int_wrapping_add, int_wrapping_mul, int_wrapping_neg, int_wrapping_sub}
 use Rattle.std.specs.Ordering.{int_eq}
-use Rattle.rb_common.specs.Direction.{is_forward}
+use Rattle.rb_common.specs.Direction.{direction_of, is_forward, is_horizontal}
 use Rattle.rb_common.specs.declared.direction.Direction.{Direction}
 use Rattle.rb_common.specs.declared.direction.Direction.TheVariants.{Invalid, LeftToRight, RightToLeft, TopToBottom, BottomToTop}
 use Rattle.rb_glyph.specs.declared.info.hb_glyph_info_t.{hb_glyph_info_t}
@@ -11,6 +11,7 @@ use Rattle.rb_glyph.specs.declared.names.GlyphExtents.{GlyphExtents}
 use Rattle.rb_glyph.specs.declared.position.GlyphPosition.{GlyphPosition}
 use Rattle.ot_layout.specs.LigatureParts.{ligature_component, ligature_id}
 use Rattle.script_items.specs.Marks.{kept_class}
+use Rattle.shaping_buffer.specs.State.{State}
 use Rattle.ot_positions.specs.declared.mark_placing.Line.{Line}
 use Rattle.ot_positions.specs.declared.mark_placing.Marks.{Marks}
 
@@ -140,6 +141,29 @@ stacked gap class base mark =
     else base
 
 -- ---- components of a ligature
+
+-- the way in which they stand is that of the line; in vertical lines that of the script, from left to right where the text has none
+abbrev pub script_direction : Option ℕ → Option Direction
+script_direction None = Some LeftToRight
+script_direction (Some script) = direction_of script
+
+abbrev pub horizontal_direction : Direction → Option ℕ → Option Direction
+horizontal_direction direction script = if is_horizontal direction then Some direction else script_direction script
+
+abbrev pub is_left_to_right : Direction → Bool
+is_left_to_right LeftToRight = true
+is_left_to_right _ = false
+
+abbrev pub runs_right : Option Direction → Bool
+runs_right None = false
+runs_right (Some direction) = is_left_to_right direction
+
+abbrev pub line_of : Direction → ℤ → State → Line
+line_of direction gap s = record {
+  direction = s.direction;
+  components_run_right = runs_right (horizontal_direction direction s.script);
+  gap = gap;
+}
 
 -- the component that a mark belongs to, from 0 on: the last one for a mark of another ligature, or of a component behind it
 unfoldable pub component_of : ℕ × ℕ → ℕ → ℕ → ℤ

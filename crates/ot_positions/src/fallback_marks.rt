@@ -8,6 +8,7 @@ ghost use Rattle.shaping_buffer.specs.ClusterStep as step;
 ghost use Rattle.ot_positions.specs.FallbackMarks.{fallback_class, recategorized};
 ghost use Rattle.ot_positions.specs.FallbackMarks.{placed_by_character, class_of_character, is_thai_above, is_lao_above};
 ghost use Rattle.ot_positions.specs.FallbackMarks.{placed_by_class, placed_at_a_side, is_ordered_below, is_ordered_above, within};
+ghost use Rattle.ot_positions.specs.MarkPlacing as placing;
 ghost use Rattle.ot_positions.specs.MarkPlacing.{IsBase, IsPlaced};
 ghost use Rattle.shaping_buffer.specs.KeepsClusters.{KeepsClusters};
 
@@ -16,7 +17,7 @@ use crate::widths::zero_mark_width;
 use font_face::Face;
 use font_functions::FontFunctions;
 use ot_layout::ligature_parts::{component_count, ligature_id};
-use rb_common::{Direction, GlyphId};
+use rb_common::{Direction, GlyphId, Script};
 use rb_glyph::GlyphExtents;
 use script_items::glyph_info::is_nonspacing_mark;
 use script_items::item::{is_unicode_mark, modified_combining_class, set_modified_combining_class};
@@ -239,17 +240,44 @@ fn keep_together(buffer: &mut hb_buffer_t, start: usize, end: usize)
 }
 
 /// How a line runs.
-fn line_of(buffer: &hb_buffer_t, direction: Direction, gap: i32) -> Line {
-    let horizontal = if direction.is_horizontal() {
-        Some(direction)
-    } else {
-        buffer.script.and_then(Direction::from_script)
-    };
+fn line_of(buffer: &hb_buffer_t, direction: Direction, gap: i32) -> Line
+    ensures { result ≡ placing.line_of direction gap buffer.now }
+{
     Line {
         direction: buffer.direction,
-        components_run_right: horizontal == Some(Direction::LeftToRight),
+        components_run_right: runs_right(horizontal_direction(direction, buffer.script)),
         gap,
     }
+}
+
+/// The way in which the components of a ligature stand: in vertical lines that of the script, from left to right where the text has none.
+fn horizontal_direction(direction: Direction, script: Option<Script>) -> Option<Direction>
+    ensures { result ≡ placing.horizontal_direction direction script }
+{
+    if direction.is_horizontal() {
+        return Some(direction);
+    }
+    match script {
+        Some(script) => Direction::from_script(script),
+        None => Some(Direction::LeftToRight),
+    }
+}
+
+/// Whether this way is from left to right.
+fn runs_right(direction: Option<Direction>) -> bool
+    ensures { result ≡ placing.runs_right direction }
+{
+    match direction {
+        Some(direction) => is_left_to_right(direction),
+        None => false,
+    }
+}
+
+/// Whether a direction is from left to right.
+fn is_left_to_right(direction: Direction) -> bool
+    ensures { result ≡ placing.is_left_to_right direction }
+{
+    matches!(direction, Direction::LeftToRight)
 }
 
 /// The next base that has marks behind it, from a place on, and where these end.
