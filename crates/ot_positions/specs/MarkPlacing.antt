@@ -1,6 +1,6 @@
 -- Where marks stand around a base, by the bounds of both and by combining classes (HarfBuzz, `position_around_base`, `position_mark`;
 -- Unicode Standard, "Combining Classes").
-use Rattle.std.specs.Prelude.{◌≡◌, ℕ, ℤ, pos, negsuc, Bool, true, false, not, ◌==◌, ◌||◌, ◌-ℤ◌, int_div, int_le, int_lt, nat_lt, Option, None, Some, if◌then◌else◌}
+use Rattle.std.specs.Prelude.{◌≡◌, ◌≢◌, ℕ, ℤ, pos, negsuc, Bool, true, false, not, ◌==◌, ◌||◌, ◌-ℤ◌, int_div, int_le, int_lt, nat_lt, Option, None, Some, if◌then◌else◌}
 use Rattle.std.specs.Int.{w32, int_wrapping_add, int_wrapping_mul, int_wrapping_neg, int_wrapping_sub}
 use Rattle.std.specs.Ordering.{int_eq}
 use Rattle.rb_common.specs.Direction.{direction_of, is_forward, is_horizontal}
@@ -241,7 +241,7 @@ unfoldable pub stack_with : ℤ → ℕ → Option GlyphExtents → GlyphExtents
 stack_with gap class None base = base
 stack_with gap class (Some mark) base = stacked gap class base mark
 
-abbrev pub with_mark : ℕ → Option GlyphExtents → Marks → Marks
+unfoldable pub with_mark : ℕ → Option GlyphExtents → Marks → Marks
 with_mark class mark m = record m { stack = stack_with m.line.gap class mark m.stack }
 
 -- it stands so far from the base, if it has bounds
@@ -265,16 +265,15 @@ moved_back back p = record p {
 abbrev pub chosen : hb_glyph_info_t → Marks → Marks
 chosen g m = of_class (kept_class g) (in_component (ligature_id g) (ligature_component g) m)
 
--- what an item, of which the font has these bounds or none, makes of the marks so far, and they of its position
-unfoldable pub marks_with : hb_glyph_info_t → Option GlyphExtents → GlyphPosition → Marks → Marks
-marks_with g bounds p m = if kept_class g == 0 then passed p m else with_mark (kept_class g) bounds (chosen g m)
+-- what a mark, of which the font has these bounds or none, makes of the marks so far, and they of its position
+unfoldable pub marks_with : hb_glyph_info_t → Option GlyphExtents → Marks → Marks
+marks_with g bounds m = with_mark (kept_class g) bounds (chosen g m)
 
 unfoldable pub placed_by : hb_glyph_info_t → Option GlyphExtents → Marks → GlyphPosition → GlyphPosition
-placed_by g bounds m p =
-    if kept_class g == 0 then p else moved_back (chosen g m).back (put (chosen g m) (kept_class g) bounds p)
+placed_by g bounds m p = moved_back (chosen g m).back (put (chosen g m) (kept_class g) bounds p)
 
 -- an item behind a base
 pub record IsPlaced (g : hb_glyph_info_t) (old : Marks) (from : GlyphPosition) (new : Marks) (to : GlyphPosition) : Type 0 where
-  pub bounds : Option GlyphExtents
-  pub marks : new ≡ marks_with g bounds from old
-  pub position : to ≡ placed_by g bounds old from
+  pub item : kept_class g ≡ 0 → (new ≡ passed from old) × (to ≡ from)
+  pub mark : kept_class g ≢ 0
+      → (bounds : Option GlyphExtents) × ((new ≡ marks_with g bounds old) × (to ≡ placed_by g bounds old from))

@@ -394,14 +394,12 @@ fn position_mark<F: FontFunctions>(
 ) -> Result<(), AllocError>
     ensures { IfOk result (λ _. IsPlaced info.now marks.old position.old marks.new position.new) }
 {
-    let class = modified_combining_class(info);
-    if class == 0 {
+    if modified_combining_class(info) == 0 {
         marks.pass(position);
         return Ok(());
     }
-    marks.choose(info);
     let bounds = bounds_of(font, info)?;
-    marks.place(class, bounds, position);
+    marks.place(info, bounds, position);
     Ok(())
 }
 

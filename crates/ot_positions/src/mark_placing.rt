@@ -80,7 +80,7 @@ impl Marks {
     }
 
     /// Begins to put marks around what a mark with a class is put to, unless the last mark was put to it too.
-    pub(crate) fn choose(&mut self, info: &hb_glyph_info_t)
+    fn choose(&mut self, info: &hb_glyph_info_t)
         ensures { self.new ≡ placing.chosen info.now self.old }
     {
         self.choose_component(ligature_id(info), ligature_component(info));
@@ -126,24 +126,25 @@ impl Marks {
         self.stack = self.component;
     }
 
-    /// Puts a mark with these bounds around the marks of its class; a mark without bounds stays where it is.
+    /// Puts a mark with a class around the marks so far; a mark without bounds stays where it is.
+    #[tactic(auto, unfolding(crate::specs::MarkPlacing::marks_with, crate::specs::MarkPlacing::placed_by))]
     pub(crate) fn place(
         &mut self,
-        class: u16,
-        mark: Option<GlyphExtents>,
+        info: &hb_glyph_info_t,
+        bounds: Option<GlyphExtents>,
         position: &mut GlyphPosition,
     )
-        ensures marks { self.new ≡ placing.with_mark class mark self.old }
-        ensures position { position.new
-            ≡ placing.moved_back self.old.back (placing.put self.old class mark position.old) }
+        ensures marks { self.new ≡ placing.marks_with info.now bounds self.old }
+        ensures position { position.new ≡ placing.placed_by info.now bounds self.old position.old }
     {
+        self.choose(info);
         let back = self.back;
-        self.put(class, mark, position);
+        self.put(modified_combining_class(info), bounds, position);
         move_back(position, back);
     }
 
     /// Moves a mark so far as it stands from the base, if it has bounds.
-    #[tactic(auto, unfolding(crate::specs::MarkPlacing::put, crate::specs::MarkPlacing::stack_with))]
+    #[tactic(auto, unfolding(crate::specs::MarkPlacing::put, crate::specs::MarkPlacing::stack_with, crate::specs::MarkPlacing::with_mark))]
     fn put(&mut self, class: u16, mark: Option<GlyphExtents>, position: &mut GlyphPosition)
         ensures marks { self.new ≡ placing.with_mark class mark self.old }
         ensures position { position.new ≡ placing.put self.old class mark position.old }
