@@ -10,8 +10,8 @@ returns-then-has_ignorables-clause-hides g c =
     let there : has_ignorables c.args.buffer.now ≡ true = sym c.has_ignorables.ensures ∙ c.if-has_ignorables.true in
     let glyph = c.glyph_for_ignorables-glyph.result in
     let stands =
-        subst (λ (invisible : Option GlyphId). StandsForThem (g.F.FontFunctions.has c.args.font.now)
-        (g.F.FontFunctions.may_have c.args.font.now) invisible glyph) c.invisible_of.ensures c.glyph_for_ignorables-glyph.ensures in
+    subst (λ (invisible : Option GlyphId). StandsForThem (g.F.FontFunctions.has c.args.font.now)
+    (g.F.FontFunctions.may_have c.args.font.now) invisible glyph) c.invisible_of.ensures c.glyph_for_ignorables-glyph.ensures in
     record {
       none = λ none. absurd (false≢true (sym none ∙ there));
       some = λ _. (glyph, (stands, c.hide_by.ensures.is));

@@ -39,7 +39,9 @@ impl<'a> KeptAdvances<'a> {
     ///
     /// # Proved
     ///
-    /// That it returns.
+    /// ```text
+    /// ensures { result.own.face.now ≡ face.now }
+    /// ```
     #[inline]
     pub fn new(face: &'a Face<'a>) -> Self {
         KeptAdvances {
@@ -96,6 +98,7 @@ fn place_of(glyph: GlyphId) -> usize {
 ///
 /// ```text
 /// ghost has = { λ kept. has_glyph kept.own.face.now }
+/// ghost may_have = { λ kept. IsOwnGlyph kept.own.face.now }
 /// ghost may_advance = { λ kept. IsOwnAdvance kept.own.face.now }
 /// ```
 impl FontFunctions for KeptAdvances<'_> {

@@ -107,7 +107,8 @@ impl SyllablePlan {
 /// # Proved
 ///
 /// ```text
-/// ensures { is_plan_of shaper result ≡ true }
+/// ensures kind { is_plan_of shaper result ≡ true }
+/// ensures is { IsSyllablePlan shaper script layout.now result }
 /// ```
 #[inline]
 pub fn syllable_plan(
@@ -121,9 +122,11 @@ pub fn syllable_plan(
         }
         ScriptShaper::Khmer => SyllablePlan::Khmer(khmer::features::plan(layout)),
         ScriptShaper::Myanmar => SyllablePlan::Myanmar,
-        ScriptShaper::Universal | ScriptShaper::UniversalJoining => {
-            let joins = shaper == ScriptShaper::UniversalJoining;
-            SyllablePlan::Universal(universal::features::plan(joins, layout))
+        ScriptShaper::Universal => {
+            SyllablePlan::Universal(universal::features::plan(false, layout))
+        }
+        ScriptShaper::UniversalJoining => {
+            SyllablePlan::Universal(universal::features::plan(true, layout))
         }
         _ => SyllablePlan::None,
     }

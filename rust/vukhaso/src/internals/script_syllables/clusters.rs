@@ -13,6 +13,7 @@ use crate::buffer::hb_buffer_t;
 /// # Proved
 ///
 /// ```text
+/// ensures is { buffer.new ≡ merged start end buffer.old }
 /// ensures closed { buffer.new.have_output ≡ false }
 /// ensures keeps { KeepsClusters buffer.old buffer.new }
 /// ```

@@ -135,7 +135,9 @@ pub(crate) fn kind_of(info: &hb_glyph_info_t) -> u8 {
 ///
 /// # Proved
 ///
-/// That it returns.
+/// ```text
+/// ensures { result ≡ unwrap_or (option_map items.kind_of (slice_get infos.now place)) 15 }
+/// ```
 #[inline]
 pub fn kind_at(infos: &[hb_glyph_info_t], place: usize) -> u8 {
     match infos.get(place) {
