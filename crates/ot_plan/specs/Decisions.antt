@@ -5,12 +5,11 @@ use Rattle.rb_common.specs.Direction.{is_horizontal}
 use Rattle.rb_common.specs.Tag.{tag_of}
 use Rattle.rb_common.specs.declared.direction.Direction.{Direction}
 use Rattle.ot_gpos_tables.specs.KernTable.{first_subtable, is_apple, is_crossing, is_machine, some_subtable, subtable_count}
-use Rattle.ot_map.specs.Masks.{mask_of}
+use Rattle.ot_map.specs.Masks.{mask_of, value_in}
 use Rattle.ot_map.specs.Plan.{IsReadOf}
 use Rattle.ot_map.specs.declared.plan.LayoutPlan.{LayoutPlan}
 use Rattle.ot_map.specs.declared.shape_plan.KernLayout.{KernLayout}
 use Rattle.ot_map.specs.declared.shape_plan.ShapePlan.{ShapePlan}
-use Rattle.script_syllables.specs.PlannedFeatures.{IsOneMask}
 use Rattle.script_shapers.specs.Shapers.{has_fallback, wanted_script, width_of}
 use Rattle.script_shapers.specs.declared.shaper.ScriptShaper.{ScriptShaper}
 use Rattle.script_shapers.specs.declared.shaper.ZeroWidthMarks.{ZeroWidthMarks}
@@ -18,7 +17,10 @@ use Rattle.script_shapers.specs.declared.shaper.ZeroWidthMarks.TheVariants as wi
 
 -- ---- features
 
--- all bits of the value of a feature (`get_mask`); 0 where the plan does not have it
+-- the bit of the value 1 of a feature (`get_1_mask`), and all bits of its value (`get_mask`); 0 where the plan does not have it
+abbrev pub IsOneMask : LayoutPlan → ℕ → ℕ → Type 0
+IsOneMask layout tag mask = IsReadOf layout.features.items tag (λ f. value_in f.bits.shift f.bits.count 1) 0 mask
+
 abbrev pub IsMask : LayoutPlan → ℕ → ℕ → Type 0
 IsMask layout tag mask = IsReadOf layout.features.items tag (λ f. mask_of f.bits.shift f.bits.count) 0 mask
 

@@ -4,7 +4,7 @@ ghost use Rattle.std.specs.Prelude.{◌≡◌, ◌&&◌, is_some, length, nat_eq
 ghost use Rattle.rb_common.specs.Tag.{tag_of};
 ghost use Rattle.ot_map.specs.Plan.{IsReadOf};
 ghost use Rattle.script_shapers.specs.Shapers.{wanted_script, width_of};
-ghost use Rattle.ot_plan.specs.Decisions.{AreMarksOf, HasMasks, IsMask, IsPositionedBy};
+ghost use Rattle.ot_plan.specs.Decisions.{AreMarksOf, HasMasks, IsMask, IsOneMask, IsPositionedBy};
 ghost use Rattle.ot_plan.specs.Decisions.{is_wanted, kern_of, kern_tag, loses_width};
 
 use font_face::Face;
@@ -12,7 +12,6 @@ use ot_gpos_tables::kern_table::KernTable;
 use ot_map::{FontLayout, KernLayout, LayoutPlan, ShapePlan};
 use rb_common::{Direction, Tag};
 use script_shapers::{ScriptShaper, ZeroWidthMarks};
-use script_syllables::requests::one_mask;
 
 /// The shaper of a text.
 #[derive(Clone, Copy)]
@@ -69,6 +68,14 @@ pub(crate) fn decided(
         fallback_mark_positioning: chosen.own.fallback_position() && are_unplaced,
         layout,
     }
+}
+
+/// The bit of the value 1 of a feature; 0 where the plan does not have it.
+fn one_mask(layout: &LayoutPlan, name: &[u8; 4]) -> u32
+    ensures { IsOneMask layout.now (tag_of name.now) result }
+{
+    let tag = Tag::from_bytes(name);
+    layout.one_mask(tag)
 }
 
 /// The bits of the value of a feature; 0 where the plan does not have it.

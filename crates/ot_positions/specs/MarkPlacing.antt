@@ -102,15 +102,19 @@ unfoldable pub moved_above : ℤ → GlyphExtents → GlyphExtents → ℤ
 moved_above gap base mark = int_wrapping_add w32 (way_above base mark) (kept_up gap (way_above base mark))
 
 -- the bounds of these with the mark
+unfoldable pub height_with : ℤ → ℤ → ℤ → ℤ
+height_with height kept mark = int_wrapping_add w32 (int_wrapping_sub w32 height kept) mark
+
+unfoldable pub top_with : ℤ → ℤ → ℤ → ℤ
+top_with top kept mark = int_wrapping_sub w32 (int_wrapping_add w32 top kept) mark
+
 unfoldable pub with_below : ℤ → GlyphExtents → GlyphExtents → GlyphExtents
-with_below gap base mark = record base {
-  height = int_wrapping_add w32 (int_wrapping_sub w32 base.height (kept_down gap (way_below base mark))) mark.height;
-}
+with_below gap base mark = record base { height = height_with base.height (kept_down gap (way_below base mark)) mark.height }
 
 unfoldable pub with_above : ℤ → GlyphExtents → GlyphExtents → GlyphExtents
 with_above gap base mark = record base {
-  y_bearing = int_wrapping_sub w32 (int_wrapping_add w32 base.y_bearing (kept_up gap (way_above base mark))) mark.height;
-  height = int_wrapping_add w32 (int_wrapping_sub w32 base.height (kept_up gap (way_above base mark))) mark.height;
+  y_bearing = top_with base.y_bearing (kept_up gap (way_above base mark)) mark.height;
+  height = height_with base.height (kept_up gap (way_above base mark)) mark.height;
 }
 
 -- the bounds of these with the gap
@@ -176,11 +180,16 @@ unfoldable pub steps_to : Bool → ℕ → ℤ → ℤ
 steps_to run_right count number = if run_right then number else int_wrapping_sub w32 (pos count -ℤ pos 1) number
 
 -- the part of the base that the component has, which is as wide as each other
+unfoldable pub start_of : ℤ → ℤ → ℤ → ℕ → ℤ
+start_of start steps width count = int_wrapping_add w32 start (int_div (int_wrapping_mul w32 steps width) (pos count))
+
+unfoldable pub share_of : ℤ → ℕ → ℤ
+share_of width count = int_div width (pos count)
+
 unfoldable pub part_of : Bool → ℕ → ℤ → GlyphExtents → GlyphExtents
 part_of run_right count number base = record base {
-  x_bearing = int_wrapping_add w32 base.x_bearing
-      (int_div (int_wrapping_mul w32 (steps_to run_right count number) base.width) (pos count));
-  width = int_div base.width (pos count);
+  x_bearing = start_of base.x_bearing (steps_to run_right count number) base.width count;
+  width = share_of base.width count;
 }
 
 -- ---- one item behind the base after the other

@@ -204,14 +204,29 @@ fn part_of(run_right: bool, count: u8, number: i32, base: GlyphExtents) -> Glyph
     ensures { result ≡ placing.part_of run_right count number base }
 {
     let steps = steps_to(run_right, count, number);
-    let count = i32::from(count);
     GlyphExtents {
-        x_bearing: base
-            .x_bearing
-            .wrapping_add(steps.wrapping_mul(base.width) / count),
-        width: base.width / count,
+        x_bearing: start_of(base.x_bearing, steps, base.width, count),
+        width: share_of(base.width, count),
         ..base
     }
+}
+
+/// Where a component begins that so many stand on the left of.
+#[tactic(auto, unfolding(crate::specs::MarkPlacing::start_of))]
+fn start_of(start: i32, steps: i32, width: i32, count: u8) -> i32
+    requires { 2 ≤ count }
+    ensures { result ≡ placing.start_of start steps width count }
+{
+    start.wrapping_add(steps.wrapping_mul(width) / i32::from(count))
+}
+
+/// How wide a component is, of so many.
+#[tactic(auto, unfolding(crate::specs::MarkPlacing::share_of))]
+fn share_of(width: i32, count: u8) -> i32
+    requires { 2 ≤ count }
+    ensures { result ≡ placing.share_of width count }
+{
+    width / i32::from(count)
 }
 
 /// How many components stand on the left of one.

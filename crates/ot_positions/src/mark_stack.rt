@@ -106,7 +106,7 @@ fn put_below(gap: i32, stack: &mut GlyphExtents, mark: &GlyphExtents) -> i32
 {
     let way = way_below(stack, mark);
     let kept = kept_down(gap, way);
-    stack.height = stack.height.wrapping_sub(kept).wrapping_add(mark.height);
+    stack.height = height_with(stack.height, kept, mark.height);
     way.wrapping_sub(kept)
 }
 
@@ -127,9 +127,25 @@ fn put_above(gap: i32, stack: &mut GlyphExtents, mark: &GlyphExtents) -> i32
 {
     let way = way_above(stack, mark);
     let kept = kept_up(gap, way);
-    stack.y_bearing = stack.y_bearing.wrapping_add(kept).wrapping_sub(mark.height);
-    stack.height = stack.height.wrapping_sub(kept).wrapping_add(mark.height);
+    stack.y_bearing = top_with(stack.y_bearing, kept, mark.height);
+    stack.height = height_with(stack.height, kept, mark.height);
     way.wrapping_add(kept)
+}
+
+/// The height of marks with one more, which does not go so much of its way.
+#[tactic(auto, unfolding(crate::specs::MarkPlacing::height_with))]
+fn height_with(height: i32, kept: i32, mark: i32) -> i32
+    ensures { result ≡ placing.height_with height kept mark }
+{
+    height.wrapping_sub(kept).wrapping_add(mark)
+}
+
+/// The top of marks with one more above.
+#[tactic(auto, unfolding(crate::specs::MarkPlacing::top_with))]
+fn top_with(top: i32, kept: i32, mark: i32) -> i32
+    ensures { result ≡ placing.top_with top kept mark }
+{
+    top.wrapping_add(kept).wrapping_sub(mark)
 }
 
 /// From the bottom of a mark up to the top of others.

@@ -1,6 +1,5 @@
 pub mod Composition
 pub mod IndicFeatures
 pub mod Placed
-pub mod Plans
 pub mod Scripts
 pub mod Stages

@@ -1,9 +1,5 @@
 //! What differs from script to script.
 
-ghost use Rattle.std.specs.Prelude.{◌≡◌, true};
-ghost use Rattle.script_indic.specs.Plans.{configuration_of, configured, other_configuration, with_halant};
-ghost use Rattle.script_indic.specs.declared.configuration.RephMode.TheVariants.{Implicit};
-
 use rb_common::{Script, script};
 
 /// Where a reph goes.
@@ -49,48 +45,37 @@ pub struct IndicConfiguration {
 
 impl IndicConfiguration {
     /// The configuration of a script.
-    pub fn of(script: Option<Script>) -> IndicConfiguration
-        ensures { result ≡ configured script }
-    {
+    pub fn of(script: Option<Script>) -> IndicConfiguration {
+        let Some(script) = script else {
+            return default_configuration();
+        };
         match script {
-            Some(script) => configuration_of(script),
-            None => default_configuration(),
+            script::DEVANAGARI => implicit('\u{94D}', RephPosition::BeforePost),
+            script::BENGALI => implicit('\u{9CD}', RephPosition::AfterSub),
+            script::GURMUKHI => implicit('\u{A4D}', RephPosition::BeforeSub),
+            script::GUJARATI => implicit('\u{ACD}', RephPosition::BeforePost),
+            script::ORIYA => implicit('\u{B4D}', RephPosition::AfterMain),
+            script::TAMIL => implicit('\u{BCD}', RephPosition::AfterPost),
+            script::TELUGU => IndicConfiguration {
+                reph_mode: RephMode::Explicit,
+                has_below_forms_before_base: false,
+                ..implicit('\u{C4D}', RephPosition::AfterPost)
+            },
+            script::KANNADA => IndicConfiguration {
+                has_below_forms_before_base: false,
+                ..implicit('\u{CCD}', RephPosition::AfterPost)
+            },
+            script::MALAYALAM => IndicConfiguration {
+                reph_mode: RephMode::Encoded,
+                ..implicit('\u{D4D}', RephPosition::AfterMain)
+            },
+            _ => default_configuration(),
         }
     }
 }
 
-/// The configuration of a script.
-fn configuration_of(script: Script) -> IndicConfiguration
-    ensures { result ≡ configuration_of script }
-{
-    match script {
-        script::DEVANAGARI => implicit('\u{94D}', RephPosition::BeforePost),
-        script::BENGALI => implicit('\u{9CD}', RephPosition::AfterSub),
-        script::GURMUKHI => implicit('\u{A4D}', RephPosition::BeforeSub),
-        script::GUJARATI => implicit('\u{ACD}', RephPosition::BeforePost),
-        script::ORIYA => implicit('\u{B4D}', RephPosition::AfterMain),
-        script::TAMIL => implicit('\u{BCD}', RephPosition::AfterPost),
-        script::TELUGU => IndicConfiguration {
-            reph_mode: RephMode::Explicit,
-            has_below_forms_before_base: false,
-            ..implicit('\u{C4D}', RephPosition::AfterPost)
-        },
-        script::KANNADA => IndicConfiguration {
-            has_below_forms_before_base: false,
-            ..implicit('\u{CCD}', RephPosition::AfterPost)
-        },
-        script::MALAYALAM => IndicConfiguration {
-            reph_mode: RephMode::Encoded,
-            ..implicit('\u{D4D}', RephPosition::AfterMain)
-        },
-        _ => default_configuration(),
-    }
-}
-
 /// The configuration of a script of which RA and a halant make a reph.
-fn implicit(virama: char, reph_position: RephPosition) -> IndicConfiguration
-    ensures { result ≡ with_halant virama reph_position Implicit true }
-{
+fn implicit(virama: char, reph_position: RephPosition) -> IndicConfiguration {
     IndicConfiguration {
         has_old_spec: true,
         virama: Some(virama),
@@ -101,9 +86,7 @@ fn implicit(virama: char, reph_position: RephPosition) -> IndicConfiguration
 }
 
 /// The configuration of any other script.
-fn default_configuration() -> IndicConfiguration
-    ensures { result ≡ other_configuration }
-{
+fn default_configuration() -> IndicConfiguration {
     IndicConfiguration {
         has_old_spec: false,
         virama: None,

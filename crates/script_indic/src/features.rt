@@ -4,15 +4,12 @@ ghost use Rattle.std.specs.Prelude.{◌≡◌, ◌++◌, IfOk};
 ghost use Rattle.ot_map.specs.Asked.{Asks};
 ghost use Rattle.ot_map.specs.Pauses.{HasSamePauses};
 ghost use Rattle.script_indic.specs.IndicFeatures.{indic_features, indic_overrides};
-ghost use Rattle.script_indic.specs.Plans.{IsIndicPlan};
 ghost use Rattle.script_indic.specs.Stages.{indic_pauses};
 
 use crate::plan::{ConsonantForms, IndicMasks, IndicPlan};
 use ot_map::{FeatureFlags, LayoutPlan, Pause, PlanBuilder};
 use rb_common::{Script, Tag};
-use script_syllables::requests::{
-    MANUAL_JOINERS, PER_SYLLABLE, add_all, add_in_stages, has_lookups, one_mask,
-};
+use script_syllables::requests::{MANUAL_JOINERS, PER_SYLLABLE, add_all, add_in_stages};
 use std::alloc::AllocError;
 
 /// The basic features, each in a stage of its own, and whether every glyph has it.
@@ -71,17 +68,16 @@ pub fn override_features(builder: &mut PlanBuilder) -> Result<(), AllocError>
 }
 
 /// The plan for a script and the features of a font.
-pub fn plan(script: Option<Script>, layout: &LayoutPlan) -> IndicPlan
-    ensures { IsIndicPlan script layout.now result }
-{
+pub fn plan(script: Option<Script>, layout: &LayoutPlan) -> IndicPlan {
+    let mask = |name| layout.one_mask(Tag::from_bytes(name));
     let masks = IndicMasks {
-        rphf: one_mask(layout, b"rphf"),
-        pref: one_mask(layout, b"pref"),
-        blwf: one_mask(layout, b"blwf"),
-        abvf: one_mask(layout, b"abvf"),
-        half: one_mask(layout, b"half"),
-        pstf: one_mask(layout, b"pstf"),
-        init: one_mask(layout, b"init"),
+        rphf: mask(b"rphf"),
+        pref: mask(b"pref"),
+        blwf: mask(b"blwf"),
+        abvf: mask(b"abvf"),
+        half: mask(b"half"),
+        pstf: mask(b"pstf"),
+        init: mask(b"init"),
     };
     let forms = ConsonantForms {
         pref: has_lookups(layout, b"pref"),
@@ -90,4 +86,10 @@ pub fn plan(script: Option<Script>, layout: &LayoutPlan) -> IndicPlan
         vatu: has_lookups(layout, b"vatu"),
     };
     IndicPlan::new(script, layout.gsub_script, masks, forms)
+}
+
+/// Whether the font has lookups for a feature.
+fn has_lookups(layout: &LayoutPlan, name: &[u8; 4]) -> bool {
+    let places = layout.stage_places(Tag::from_bytes(name));
+    places.start < places.end
 }

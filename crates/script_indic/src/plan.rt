@@ -1,9 +1,8 @@
 //! How a text of an Indic script is shaped by a font.
 
-ghost use Rattle.std.specs.Prelude.{◌≡◌, ◌&&◌, true, false, not, IfOk};
+ghost use Rattle.std.specs.Prelude.{◌≡◌, true, false, IfOk};
 ghost use Rattle.shaping_buffer.specs.KeepsClusters.{KeepsClusters};
 ghost use Rattle.script_syllables.specs.KeepsNumbers.{KeepsNumbers};
-ghost use Rattle.script_indic.specs.Plans.{configured, is_malayalam, is_old_spec};
 ghost use Rattle.shaping_passes.specs.Refusals.{IsRefusal};
 
 use crate::configuration::IndicConfiguration;
@@ -77,30 +76,20 @@ impl IndicPlan {
         gsub_script: Tag,
         masks: IndicMasks,
         forms: ConsonantForms,
-    ) -> IndicPlan
-        ensures { result ≡ record {
-          script = script;
-          configuration = configured script;
-          is_old_spec = is_old_spec script gsub_script.0;
-          masks = masks;
-          forms = forms;
-        } }
-    {
+    ) -> IndicPlan {
         let configuration = IndicConfiguration::of(script);
         IndicPlan {
             script,
             configuration,
-            is_old_spec: configuration.has_old_spec && gsub_script.0 % 256 != u32::from(b'2'),
+            is_old_spec: configuration.has_old_spec && gsub_script.to_bytes()[3] != b'2',
             masks,
             forms,
         }
     }
 
     /// Whether a rule with context is not taken, where a font is asked for its forms.
-    pub fn wants_no_context(&self) -> bool
-        ensures { result ≡ not self.now.is_old_spec && not (is_malayalam self.now.script) }
-    {
-        !self.is_old_spec && !is_malayalam(self.script)
+    pub fn wants_no_context(&self) -> bool {
+        !self.is_old_spec && !self.is(script::MALAYALAM)
     }
 
     /// Whether the text is of a script.
@@ -188,15 +177,5 @@ impl IndicPlan {
     pub(crate) fn virama_glyph<F: FontForms>(&self, font: &F) -> Option<u32> {
         let glyph = font.glyph_of(self.configuration.virama? as u32)?;
         if glyph == 0 { None } else { Some(glyph) }
-    }
-}
-
-/// Whether a script is Malayalam.
-fn is_malayalam(script: Option<Script>) -> bool
-    ensures { result ≡ is_malayalam script }
-{
-    match script {
-        Some(script) => script == script::MALAYALAM,
-        None => false,
     }
 }

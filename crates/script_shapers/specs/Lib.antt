@@ -1,4 +1,3 @@
-pub mod ScriptPlans
 pub mod Shapers
 pub mod Stages
 pub mod Syllables

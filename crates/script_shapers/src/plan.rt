@@ -1,17 +1,13 @@
 //! What the features of a font make of a script's shaper.
 
-ghost use Rattle.std.specs.Prelude.{◌≡◌, ◌≢◌, true, false, codes};
-ghost use Rattle.rb_common.specs.Tag.{tag_of};
-ghost use Rattle.script_syllables.specs.PlannedFeatures.{HasFeature};
-ghost use Rattle.script_shapers.specs.ScriptPlans.{AreFormMasks, IsScriptPlan, is_script, joins};
+ghost use Rattle.std.specs.Prelude.{◌≡◌, ◌≢◌, true, false};
 ghost use Rattle.script_shapers.specs.declared.shaper.ScriptShaper.TheVariants.{Arabic};
 
 use crate::shaper::ScriptShaper;
 use ot_map::LayoutPlan;
-use rb_common::{Script, script};
-use script_joining::arabic::features::lacks_forms;
+use rb_common::{Script, Tag, script};
+use script_joining::arabic::features::{FORM_FEATURES, lacks_forms};
 use script_letters::hangul::JAMO_FEATURES;
-use script_syllables::requests::{has_feature, one_mask};
 
 /// What the features of a font make of a script's shaper: HarfBuzz's `data_create`.
 #[derive(Clone, Copy)]
@@ -45,81 +41,32 @@ pub fn script_plan(
     ensures pieces { shaper ≢ Arabic → result.has_stch ≡ false }
     ensures fallback { shaper ≢ Arabic → result.does_fallback ≡ false }
     ensures found { finds_script ≡ true → result.has_private_use ≡ false }
-    ensures is { IsScriptPlan shaper script layout.now finds_script result }
 {
+    let is_arabic = shaper == ScriptShaper::Arabic;
     ScriptPlan {
         shaper,
-        is_mongolian: is_script(script, script::MONGOLIAN),
-        has_private_use: is_script(script, script::THAI) && !finds_script,
-        has_stch: has_pieces(shaper, layout),
-        does_fallback: does_fallback(shaper, script, layout),
-        has_gpos_mark: has_feature(layout, b"mark"),
-        rlig_mask: one_mask(layout, b"rlig"),
-        masks: masks_of(shaper, layout),
+        is_mongolian: script == Some(script::MONGOLIAN),
+        has_private_use: script == Some(script::THAI) && !finds_script,
+        has_stch: is_arabic && layout.one_mask(Tag::from_bytes(b"stch")) != 0,
+        does_fallback: is_arabic && script == Some(script::ARABIC) && lacks_forms(layout),
+        has_gpos_mark: layout.one_mask(Tag::from_bytes(b"mark")) != 0,
+        rlig_mask: layout.one_mask(Tag::from_bytes(b"rlig")),
+        masks: match shaper {
+            ScriptShaper::Arabic | ScriptShaper::UniversalJoining => masks_of(
+                &FORM_FEATURES,
+                layout,
+            ),
+            ScriptShaper::Hangul => masks_of(&JAMO_FEATURES, layout),
+            _ => [0; 8],
+        },
     }
 }
 
-/// Whether a script is this one.
-fn is_script(script: Option<Script>, own: Script) -> bool
-    ensures { result ≡ is_script own script }
-{
-    match script {
-        Some(script) => script == own,
-        None => false,
-    }
-}
-
-/// Whether the font stretches marks.
-fn has_pieces(shaper: ScriptShaper, layout: &LayoutPlan) -> bool
-    ensures own { shaper ≡ Arabic → HasFeature layout.now (tag_of (codes "stch")) result }
-    ensures none { shaper ≢ Arabic → result ≡ false }
-{
-    if shaper == ScriptShaper::Arabic {
-        has_feature(layout, b"stch")
-    } else {
-        false
-    }
-}
-
-/// Whether a fallback makes the forms of Arabic letters.
-fn does_fallback(shaper: ScriptShaper, script: Option<Script>, layout: &LayoutPlan) -> bool
-    ensures { shaper ≢ Arabic → result ≡ false }
-{
-    shaper == ScriptShaper::Arabic && is_script(script, script::ARABIC) && lacks_forms(layout)
-}
-
-/// The masks of the numbers that items keep.
-fn masks_of(shaper: ScriptShaper, layout: &LayoutPlan) -> [u32; 8]
-    ensures { joins shaper ≡ true → AreFormMasks layout.now result }
-{
-    match shaper {
-        ScriptShaper::Arabic | ScriptShaper::UniversalJoining => form_masks(layout),
-        ScriptShaper::Hangul => jamo_masks(layout),
-        _ => [0; 8],
-    }
-}
-
-/// The masks of the forms of letters, by the number of each.
-fn form_masks(layout: &LayoutPlan) -> [u32; 8]
-    ensures { AreFormMasks layout.now result }
-{
-    [
-        0,
-        one_mask(layout, b"isol"),
-        one_mask(layout, b"fina"),
-        one_mask(layout, b"fin2"),
-        one_mask(layout, b"fin3"),
-        one_mask(layout, b"medi"),
-        one_mask(layout, b"med2"),
-        one_mask(layout, b"init"),
-    ]
-}
-
-/// The masks of jamo, by the number of each, from 1 on.
-fn jamo_masks(layout: &LayoutPlan) -> [u32; 8] {
+/// The masks of features, from the number 1 on.
+fn masks_of(features: &[&[u8; 4]], layout: &LayoutPlan) -> [u32; 8] {
     let mut masks = [0; 8];
-    for (mask, name) in masks.iter_mut().skip(1).zip(JAMO_FEATURES.iter()) {
-        *mask = one_mask(layout, name);
+    for (mask, name) in masks.iter_mut().skip(1).zip(features.iter()) {
+        *mask = layout.one_mask(Tag::from_bytes(name));
     }
     masks
 }

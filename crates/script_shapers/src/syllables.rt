@@ -2,7 +2,6 @@
 
 ghost use Rattle.std.specs.Prelude.{◌≡◌, true, false, IfOk};
 ghost use Rattle.shaping_buffer.specs.KeepsClusters.{KeepsClusters};
-ghost use Rattle.script_shapers.specs.ScriptPlans.{IsSyllablePlan};
 ghost use Rattle.script_shapers.specs.Syllables.{is_plan_of};
 ghost use Rattle.script_syllables.specs.KeepsNumbers.{KeepsNumbers};
 ghost use Rattle.shaping_passes.specs.Refusals.{IsRefusal};
@@ -86,18 +85,15 @@ pub fn syllable_plan(
     script: Option<Script>,
     layout: &LayoutPlan,
 ) -> SyllablePlan
-    ensures kind { is_plan_of shaper result ≡ true }
-    ensures is { IsSyllablePlan shaper script layout.now result }
+    ensures { is_plan_of shaper result ≡ true }
 {
     match shaper {
         ScriptShaper::Indic => SyllablePlan::Indic(script_indic::features::plan(script, layout)),
         ScriptShaper::Khmer => SyllablePlan::Khmer(khmer::features::plan(layout)),
         ScriptShaper::Myanmar => SyllablePlan::Myanmar,
-        ScriptShaper::Universal => {
-            SyllablePlan::Universal(universal::features::plan(false, layout))
-        }
-        ScriptShaper::UniversalJoining => {
-            SyllablePlan::Universal(universal::features::plan(true, layout))
+        ScriptShaper::Universal | ScriptShaper::UniversalJoining => {
+            let joins = shaper == ScriptShaper::UniversalJoining;
+            SyllablePlan::Universal(universal::features::plan(joins, layout))
         }
         _ => SyllablePlan::None,
     }

@@ -3,10 +3,9 @@
 -- A range is merged before its items move, so that it is one cluster. Then a part of the list is written anew with the
 -- same clusters place by place, or the same items in another order (`MovedLemmas`), as one that is turned in a range
 -- (`TurnLemmas`). In any order of clusters nothing is merged, and what stays is which numbers there are
--- (`NumbersLemmas`). Items that are given features stay in their clusters (`FeatureLemmas`). Which characters make a syllable, and in which order they stand, is compared with HarfBuzz, and
+-- (`NumbersLemmas`). Which characters make a syllable, and in which order they stand, is compared with HarfBuzz, and
 -- not proved.
 
-pub mod FeatureLemmas
 pub mod MovedLemmas
 pub mod NumbersLemmas
 pub mod TurnLemmas

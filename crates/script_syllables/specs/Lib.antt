@@ -1,9 +1,7 @@
 pub mod Composition
-pub mod Items
 pub mod KeepsNumbers
 pub mod Machines
 pub mod Moves
-pub mod PlannedFeatures
 pub mod Scripts
 pub mod Stages
 pub mod SyllableFeatures

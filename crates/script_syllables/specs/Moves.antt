@@ -2,8 +2,6 @@
 use Rattle.std.specs.Prelude.{ℕ, ◌+◌, ◌-◌, ◌++◌, ◌&&◌, List, length, take, drop, nat_lt, nat_le, if◌then◌else◌}
 use Rattle.glyph_lists.specs.Parts.{part}
 use Rattle.glyph_lists.specs.Groups.{reverse_range}
-use Rattle.shaping_buffer.specs.ClusterStep.{merge_clusters}
-use Rattle.shaping_buffer.specs.State.{State, len}
 
 -- the items from `middle` to `end` in front of those from `start` to `middle`
 abbrev pub moved : {X : Type 0} → ℕ → ℕ → ℕ → List X → List X
@@ -22,7 +20,3 @@ last_before start end count l =
 -- all in reverse order
 abbrev pub turned : {X : Type 0} → ℕ → ℕ → List X → List X
 turned start end l = if nat_lt start end && nat_le end (length l) then reverse_range start end l else l
-
--- their clusters are merged before
-abbrev pub merged : ℕ → ℕ → State → State
-merged start end s = if nat_le start end && nat_le end (len s) then merge_clusters start end s else s

@@ -1,7 +1,6 @@
 //! Clusters of syllables.
 
 ghost use Rattle.std.specs.Prelude.{◌≡◌, false};
-ghost use Rattle.script_syllables.specs.Moves.{merged};
 ghost use Rattle.shaping_buffer.specs.KeepsClusters.{KeepsClusters};
 
 use shaping_buffer::hb_buffer_t;
@@ -10,7 +9,6 @@ use shaping_buffer::hb_buffer_t;
 #[tactic(auto, using(shaping_buffer::proofs::ClosedKeepsLemmas::kept))]
 pub fn merge(buffer: &mut hb_buffer_t, start: usize, end: usize)
     requires { buffer.old.have_output ≡ false }
-    ensures is { buffer.new ≡ merged start end buffer.old }
     ensures closed { buffer.new.have_output ≡ false }
     ensures keeps { KeepsClusters buffer.old buffer.new }
 {

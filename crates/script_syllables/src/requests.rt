@@ -1,13 +1,11 @@
-//! Features that are asked for together, and what a plan has of one.
+//! Features that are asked for together.
 
 ghost use Rattle.std.specs.Prelude.{◌≡◌, ◌++◌, [], ◌∷◌, length, map, replicate, IfOk};
-ghost use Rattle.rb_common.specs.Tag.{tag_of};
 ghost use Rattle.ot_map.specs.Asked.{Asks, in_stages, of_some};
 ghost use Rattle.ot_map.specs.Pauses.{HasSamePauses};
 ghost use Rattle.ot_map.specs.declared.plan.Pause.TheVariants.{Nothing};
-ghost use Rattle.script_syllables.specs.PlannedFeatures.{HasFeature, HasLookups, IsOneMask};
 
-use ot_map::{FeatureFlags, LayoutPlan, Pause, PlanBuilder};
+use ot_map::{FeatureFlags, Pause, PlanBuilder};
 use rb_common::Tag;
 use std::alloc::AllocError;
 
@@ -82,28 +80,4 @@ fn add_one(
     let flags = FeatureFlags { is_global, ..flags };
     builder.add_feature(Tag::from_bytes(name), flags, 1)?;
     Ok(())
-}
-
-/// The mask of the value 1 of a feature; 0 where the plan does not have it.
-pub fn one_mask(layout: &LayoutPlan, name: &[u8; 4]) -> u32
-    ensures { IsOneMask layout.now (tag_of name.now) result }
-{
-    let tag = Tag::from_bytes(name);
-    layout.one_mask(tag)
-}
-
-/// Whether the plan has a feature.
-pub fn has_feature(layout: &LayoutPlan, name: &[u8; 4]) -> bool
-    ensures { HasFeature layout.now (tag_of name.now) result }
-{
-    one_mask(layout, name) != 0
-}
-
-/// Whether the font has lookups for a feature.
-pub fn has_lookups(layout: &LayoutPlan, name: &[u8; 4]) -> bool
-    ensures { HasLookups layout.now (tag_of name.now) result }
-{
-    let tag = Tag::from_bytes(name);
-    let places = layout.stage_places(tag);
-    places.start < places.end
 }

@@ -1,10 +1,9 @@
 //! The syllables of a text.
 
-ghost use Rattle.std.specs.Prelude.{◌≡◌, ◌<◌, ◌≤◌, ◌-◌, false, length, option_map, slice_get, unwrap_or};
+ghost use Rattle.std.specs.Prelude.{◌≡◌, ◌<◌, ◌≤◌, ◌-◌, false, length};
 ghost use Rattle.glyph_lists.specs.Clusters.{clusters};
 ghost use Rattle.glyph_lists.specs.Groups.{group_end, share_cluster};
 ghost use Rattle.shaping_buffer.specs.KeepsClusters.{KeepsClusters};
-ghost use Rattle.script_syllables.specs.Items as items;
 
 use crate::grammar::Grammar;
 use glyph_lists::groups::group_end;
@@ -122,16 +121,12 @@ pub fn syllable_end(infos: &[hb_glyph_info_t], start: usize) -> usize
 }
 
 /// The kind of the syllable that an item is in.
-pub(crate) fn kind_of(info: &hb_glyph_info_t) -> u8
-    ensures { result ≡ items.kind_of info.now }
-{
+pub(crate) fn kind_of(info: &hb_glyph_info_t) -> u8 {
     info.syllable() % 16
 }
 
 /// The kind of the syllable that the item at a place is in; that of none where there is no item.
-pub fn kind_at(infos: &[hb_glyph_info_t], place: usize) -> u8
-    ensures { result ≡ unwrap_or (option_map items.kind_of (slice_get infos.now place)) 15 }
-{
+pub fn kind_at(infos: &[hb_glyph_info_t], place: usize) -> u8 {
     match infos.get(place) {
         Some(info) => kind_of(info),
         None => NO_KIND,

@@ -1,4 +1,1 @@
--- What is moved and numbered is proved by the lemmas of `script_syllables`; items that are given a form stay in their clusters
--- (`FormLemmas`).
-
-pub mod FormLemmas
+-- What is moved and numbered is proved by the lemmas of `script_syllables`: no lemma is needed here.

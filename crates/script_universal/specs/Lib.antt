@@ -1,5 +1,4 @@
 pub mod Composition
-pub mod Plans
 pub mod Scripts
 pub mod Stages
 pub mod KhmerFeatures

@@ -2,16 +2,14 @@
 //! Universal Shaping Engine").
 
 ghost use Rattle.std.specs.Prelude.{◌≡◌, ◌++◌, IfOk};
-ghost use Rattle.rb_common.specs.Tag.{tag_of};
 ghost use Rattle.ot_map.specs.Asked.{Asks};
-ghost use Rattle.script_universal.specs.Plans.{HasForms, IsFormMask, IsUniversalPlan};
 ghost use Rattle.script_universal.specs.Stages.{universal_pauses, universal_pauses_of_syllables, universal_pauses_of_records};
 ghost use Rattle.script_universal.specs.UniversalFeatures.{reordering_features, syllable_features, universal_features};
 
 use crate::universal::plan::{FormMasks, UniversalPlan};
 use ot_map::{FeatureFlags, LayoutPlan, Pause, PlanBuilder};
 use rb_common::Tag;
-use script_syllables::requests::{MANUAL_JOINER, PER_SYLLABLE, add_all, one_mask};
+use script_syllables::requests::{MANUAL_JOINER, PER_SYLLABLE, add_all};
 use std::alloc::AllocError;
 
 /// The features of single letters, and whether every glyph has it.
@@ -93,39 +91,25 @@ fn add_recorded_features(builder: &mut PlanBuilder) -> Result<(), AllocError>
 }
 
 /// The plan for the features of a font. `joins` says whether the letters of the script join by themselves.
-pub fn plan(joins: bool, layout: &LayoutPlan) -> UniversalPlan
-    ensures { IsUniversalPlan joins layout.now result }
-{
+pub fn plan(joins: bool, layout: &LayoutPlan) -> UniversalPlan {
+    let forms = if joins {
+        FormMasks::default()
+    } else {
+        FormMasks {
+            isol: form_mask(layout, b"isol"),
+            init: form_mask(layout, b"init"),
+            medi: form_mask(layout, b"medi"),
+            fina: form_mask(layout, b"fina"),
+        }
+    };
     UniversalPlan {
-        rphf: one_mask(layout, b"rphf"),
-        forms: form_masks(joins, layout),
-    }
-}
-
-/// The masks of forms of syllables; none where letters join by themselves.
-fn form_masks(joins: bool, layout: &LayoutPlan) -> FormMasks
-    ensures { HasForms joins layout.now result }
-{
-    if joins {
-        return FormMasks {
-            isol: 0,
-            init: 0,
-            medi: 0,
-            fina: 0,
-        };
-    }
-    FormMasks {
-        isol: form_mask(layout, b"isol"),
-        init: form_mask(layout, b"init"),
-        medi: form_mask(layout, b"medi"),
-        fina: form_mask(layout, b"fina"),
+        rphf: layout.one_mask(Tag::from_bytes(b"rphf")),
+        forms,
     }
 }
 
 /// The mask of a form; 0 where every glyph has it.
-fn form_mask(layout: &LayoutPlan, name: &[u8; 4]) -> u32
-    ensures { IsFormMask layout.now (tag_of name.now) result }
-{
-    let mask = one_mask(layout, name);
+fn form_mask(layout: &LayoutPlan, name: &[u8; 4]) -> u32 {
+    let mask = layout.one_mask(Tag::from_bytes(name));
     if mask == layout.global_mask { 0 } else { mask }
 }

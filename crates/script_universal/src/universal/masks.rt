@@ -1,10 +1,7 @@
 //! Which features the items of syllables have.
 
-ghost use Rattle.std.specs.Prelude.{◌≡◌, ◌≤◌, false, length, map};
+ghost use Rattle.std.specs.Prelude.{◌≡◌, false};
 ghost use Rattle.glyph_lists.specs.Clusters.{clusters};
-ghost use Rattle.glyph_lists.specs.Parts.{map_range};
-ghost use Rattle.script_syllables.specs.Items.{changed_within};
-ghost use Rattle.script_universal.specs.Plans.{joins, with_form};
 ghost use Rattle.shaping_buffer.specs.KeepsClusters.{KeepsClusters};
 
 use crate::universal::item::is;
@@ -116,9 +113,7 @@ fn own_mask(form: Form, masks: &FormMasks) -> u32 {
 }
 
 /// Whether syllables of a kind join.
-pub(crate) fn joins(kind: u8) -> bool
-    ensures { result ≡ joins kind }
-{
+pub(crate) fn joins(kind: u8) -> bool {
     kind <= SYMBOL || kind == BROKEN
 }
 
@@ -134,46 +129,12 @@ fn next_form(kind: u8, last: Form) -> Form {
 }
 
 /// Gives the items from `start` to `end` the mask of a form, and takes those of the other forms.
+#[tactic(auto, using(shaping_buffer::proofs::ClosedKeepsLemmas::clusters_written))]
 fn set_form(infos: &mut [hb_glyph_info_t], start: usize, end: usize, masks: &FormMasks, mask: u32)
-    ensures is { infos.new ≡ changed_within (with_form masks.now mask) start end infos.old }
-    ensures clusters { clusters infos.new ≡ clusters infos.old }
+    ensures { clusters infos.new ≡ clusters infos.old }
 {
-    let end = end.min(infos.len());
-    if start < end {
-        form_within(infos, start, end, masks, mask);
+    let all = masks.all();
+    for place in start..end.min(infos.len()) {
+        infos[place].mask = infos[place].mask & !all | mask;
     }
-}
-
-/// Does that within the list.
-#[tactic(auto, using(crate::proofs::FormLemmas::clusters_within))]
-fn form_within(
-    infos: &mut [hb_glyph_info_t],
-    start: usize,
-    end: usize,
-    masks: &FormMasks,
-    mask: u32,
-)
-    requires order { start ≤ end }
-    requires within { end ≤ length infos.old }
-    ensures is { infos.new ≡ map_range (with_form masks.now mask) infos.old start end }
-    ensures clusters { clusters infos.new ≡ clusters infos.old }
-{
-    form_all(&mut infos[start..end], masks, mask);
-}
-
-/// Gives these items the mask.
-#[tactic(auto, using(glyph_lists::proofs::MapLemmas::walks))]
-fn form_all(infos: &mut [hb_glyph_info_t], masks: &FormMasks, mask: u32)
-    ensures { infos.new ≡ map (with_form masks.now mask) infos.old }
-{
-    for info in infos.iter_mut() {
-        form_one(info, masks, mask);
-    }
-}
-
-/// Gives an item the mask.
-fn form_one(info: &mut hb_glyph_info_t, masks: &FormMasks, mask: u32)
-    ensures { info.new ≡ with_form masks.now mask info.old }
-{
-    info.mask = info.mask & !masks.all() | mask;
 }

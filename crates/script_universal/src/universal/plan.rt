@@ -3,7 +3,6 @@
 ghost use Rattle.std.specs.Prelude.{◌≡◌, true, false, IfOk};
 ghost use Rattle.shaping_buffer.specs.KeepsClusters.{KeepsClusters};
 ghost use Rattle.script_syllables.specs.KeepsNumbers.{KeepsNumbers};
-ghost use Rattle.script_universal.specs.Plans.{all_forms};
 ghost use Rattle.shaping_passes.specs.Refusals.{IsRefusal};
 
 use crate::universal::item::mark_passed_over;
@@ -61,9 +60,7 @@ pub struct FormMasks {
 
 impl FormMasks {
     /// Those of all forms.
-    pub fn all(&self) -> u32
-        ensures { result ≡ all_forms self.now }
-    {
+    pub fn all(&self) -> u32 {
         self.isol | self.init | self.medi | self.fina
     }
 }
