@@ -7,7 +7,6 @@ use crate::font_face::Face;
 use crate::ot_gpos_tables::kern_table::KernTable;
 use crate::ot_map::{FontLayout, KernLayout, LayoutPlan, ShapePlan};
 use crate::script_shapers::{ScriptShaper, ZeroWidthMarks};
-use crate::script_syllables::requests::one_mask;
 
 /// The shaper of a text.
 #[derive(Clone, Copy, Debug)]
@@ -59,6 +58,12 @@ pub(crate) fn decided(
         fallback_mark_positioning: chosen.own.fallback_position() && are_unplaced,
         layout,
     }
+}
+
+/// The bit of the value 1 of a feature; 0 where the plan does not have it.
+fn one_mask(layout: &LayoutPlan, name: &[u8; 4]) -> u32 {
+    let tag = Tag::from_bytes(name);
+    layout.one_mask(tag)
 }
 
 /// The bits of the value of a feature; 0 where the plan does not have it.

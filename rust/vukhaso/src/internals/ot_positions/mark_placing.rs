@@ -177,14 +177,31 @@ fn component_of(parts: (u8, u8), ligature: u8, component: u8) -> i32 {
 fn part_of(run_right: bool, count: u8, number: i32, base: GlyphExtents) -> GlyphExtents {
     debug_assert!(2 <= count);
     let steps = steps_to(run_right, count, number);
-    let count = i32::from(count);
     GlyphExtents {
-        x_bearing: base
-            .x_bearing
-            .wrapping_add(steps.wrapping_mul(base.width) / count),
-        width: base.width / count,
+        x_bearing: start_of(base.x_bearing, steps, base.width, count),
+        width: share_of(base.width, count),
         ..base
     }
+}
+
+/// Where a component begins that so many stand on the left of.
+///
+/// # Requires
+///
+/// - `2 ≤ count`
+fn start_of(start: i32, steps: i32, width: i32, count: u8) -> i32 {
+    debug_assert!(2 <= count);
+    start.wrapping_add(steps.wrapping_mul(width) / i32::from(count))
+}
+
+/// How wide a component is, of so many.
+///
+/// # Requires
+///
+/// - `2 ≤ count`
+fn share_of(width: i32, count: u8) -> i32 {
+    debug_assert!(2 <= count);
+    width / i32::from(count)
 }
 
 /// How many components stand on the left of one.

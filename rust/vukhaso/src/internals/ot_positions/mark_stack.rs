@@ -78,7 +78,7 @@ fn leave_gap_above(gap: i32, stack: &mut GlyphExtents) {
 fn put_below(gap: i32, stack: &mut GlyphExtents, mark: &GlyphExtents) -> i32 {
     let way = way_below(stack, mark);
     let kept = kept_down(gap, way);
-    stack.height = stack.height.wrapping_sub(kept).wrapping_add(mark.height);
+    stack.height = height_with(stack.height, kept, mark.height);
     way.wrapping_sub(kept)
 }
 
@@ -92,9 +92,19 @@ fn way_below(stack: &GlyphExtents, mark: &GlyphExtents) -> i32 {
 fn put_above(gap: i32, stack: &mut GlyphExtents, mark: &GlyphExtents) -> i32 {
     let way = way_above(stack, mark);
     let kept = kept_up(gap, way);
-    stack.y_bearing = stack.y_bearing.wrapping_add(kept).wrapping_sub(mark.height);
-    stack.height = stack.height.wrapping_sub(kept).wrapping_add(mark.height);
+    stack.y_bearing = top_with(stack.y_bearing, kept, mark.height);
+    stack.height = height_with(stack.height, kept, mark.height);
     way.wrapping_add(kept)
+}
+
+/// The height of marks with one more, which does not go so much of its way.
+fn height_with(height: i32, kept: i32, mark: i32) -> i32 {
+    height.wrapping_sub(kept).wrapping_add(mark)
+}
+
+/// The top of marks with one more above.
+fn top_with(top: i32, kept: i32, mark: i32) -> i32 {
+    top.wrapping_add(kept).wrapping_sub(mark)
 }
 
 /// From the bottom of a mark up to the top of others.

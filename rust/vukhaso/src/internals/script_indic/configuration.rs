@@ -50,41 +50,33 @@ impl IndicConfiguration {
     ///
     /// # Proved
     ///
-    /// ```text
-    /// ensures { result ≡ configured script }
-    /// ```
-    #[inline]
+    /// That it returns.
     pub fn of(script: Option<Script>) -> IndicConfiguration {
+        let Some(script) = script else {
+            return default_configuration();
+        };
         match script {
-            Some(script) => configuration_of(script),
-            None => default_configuration(),
+            script::DEVANAGARI => implicit('\u{94D}', RephPosition::BeforePost),
+            script::BENGALI => implicit('\u{9CD}', RephPosition::AfterSub),
+            script::GURMUKHI => implicit('\u{A4D}', RephPosition::BeforeSub),
+            script::GUJARATI => implicit('\u{ACD}', RephPosition::BeforePost),
+            script::ORIYA => implicit('\u{B4D}', RephPosition::AfterMain),
+            script::TAMIL => implicit('\u{BCD}', RephPosition::AfterPost),
+            script::TELUGU => IndicConfiguration {
+                reph_mode: RephMode::Explicit,
+                has_below_forms_before_base: false,
+                ..implicit('\u{C4D}', RephPosition::AfterPost)
+            },
+            script::KANNADA => IndicConfiguration {
+                has_below_forms_before_base: false,
+                ..implicit('\u{CCD}', RephPosition::AfterPost)
+            },
+            script::MALAYALAM => IndicConfiguration {
+                reph_mode: RephMode::Encoded,
+                ..implicit('\u{D4D}', RephPosition::AfterMain)
+            },
+            _ => default_configuration(),
         }
-    }
-}
-
-/// The configuration of a script.
-fn configuration_of(script: Script) -> IndicConfiguration {
-    match script {
-        script::DEVANAGARI => implicit('\u{94D}', RephPosition::BeforePost),
-        script::BENGALI => implicit('\u{9CD}', RephPosition::AfterSub),
-        script::GURMUKHI => implicit('\u{A4D}', RephPosition::BeforeSub),
-        script::GUJARATI => implicit('\u{ACD}', RephPosition::BeforePost),
-        script::ORIYA => implicit('\u{B4D}', RephPosition::AfterMain),
-        script::TAMIL => implicit('\u{BCD}', RephPosition::AfterPost),
-        script::TELUGU => IndicConfiguration {
-            reph_mode: RephMode::Explicit,
-            has_below_forms_before_base: false,
-            ..implicit('\u{C4D}', RephPosition::AfterPost)
-        },
-        script::KANNADA => IndicConfiguration {
-            has_below_forms_before_base: false,
-            ..implicit('\u{CCD}', RephPosition::AfterPost)
-        },
-        script::MALAYALAM => IndicConfiguration {
-            reph_mode: RephMode::Encoded,
-            ..implicit('\u{D4D}', RephPosition::AfterMain)
-        },
-        _ => default_configuration(),
     }
 }
 

@@ -6,9 +6,7 @@ use crate::common::{Script, Tag};
 use crate::memory::AllocError;
 use crate::ot_map::{FeatureFlags, LayoutPlan, Pause, PlanBuilder};
 use crate::script_indic::plan::{ConsonantForms, IndicMasks, IndicPlan};
-use crate::script_syllables::requests::{
-    MANUAL_JOINERS, PER_SYLLABLE, add_all, add_in_stages, has_lookups, one_mask,
-};
+use crate::script_syllables::requests::{MANUAL_JOINERS, PER_SYLLABLE, add_all, add_in_stages};
 
 /// The basic features, each in a stage of its own, and whether every glyph has it.
 const BASIC_FEATURES: [(&[u8; 4], bool); 11] = [
@@ -87,19 +85,18 @@ pub fn override_features(builder: &mut PlanBuilder) -> Result<(), AllocError> {
 ///
 /// # Proved
 ///
-/// ```text
-/// ensures { IsIndicPlan script layout.now result }
-/// ```
+/// That it returns.
 #[inline]
 pub fn plan(script: Option<Script>, layout: &LayoutPlan) -> IndicPlan {
+    let mask = |name| layout.one_mask(Tag::from_bytes(name));
     let masks = IndicMasks {
-        rphf: one_mask(layout, b"rphf"),
-        pref: one_mask(layout, b"pref"),
-        blwf: one_mask(layout, b"blwf"),
-        abvf: one_mask(layout, b"abvf"),
-        half: one_mask(layout, b"half"),
-        pstf: one_mask(layout, b"pstf"),
-        init: one_mask(layout, b"init"),
+        rphf: mask(b"rphf"),
+        pref: mask(b"pref"),
+        blwf: mask(b"blwf"),
+        abvf: mask(b"abvf"),
+        half: mask(b"half"),
+        pstf: mask(b"pstf"),
+        init: mask(b"init"),
     };
     let forms = ConsonantForms {
         pref: has_lookups(layout, b"pref"),
@@ -108,4 +105,10 @@ pub fn plan(script: Option<Script>, layout: &LayoutPlan) -> IndicPlan {
         vatu: has_lookups(layout, b"vatu"),
     };
     IndicPlan::new(script, layout.gsub_script, masks, forms)
+}
+
+/// Whether the font has lookups for a feature.
+fn has_lookups(layout: &LayoutPlan, name: &[u8; 4]) -> bool {
+    let places = layout.stage_places(Tag::from_bytes(name));
+    places.start < places.end
 }

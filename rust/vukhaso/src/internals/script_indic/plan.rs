@@ -72,15 +72,7 @@ impl IndicPlan {
     ///
     /// # Proved
     ///
-    /// ```text
-    /// ensures { result ≡ record {
-    ///       script = script;
-    ///       configuration = configured script;
-    ///       is_old_spec = is_old_spec script gsub_script.0;
-    ///       masks = masks;
-    ///       forms = forms;
-    ///     } }
-    /// ```
+    /// That it returns.
     #[inline]
     pub fn new(
         script: Option<Script>,
@@ -92,7 +84,7 @@ impl IndicPlan {
         IndicPlan {
             script,
             configuration,
-            is_old_spec: configuration.has_old_spec && gsub_script.0 % 256 != u32::from(b'2'),
+            is_old_spec: configuration.has_old_spec && gsub_script.to_bytes()[3] != b'2',
             masks,
             forms,
         }
@@ -102,12 +94,10 @@ impl IndicPlan {
     ///
     /// # Proved
     ///
-    /// ```text
-    /// ensures { result ≡ not self.now.is_old_spec && not (is_malayalam self.now.script) }
-    /// ```
+    /// That it returns.
     #[inline]
     pub fn wants_no_context(&self) -> bool {
-        !self.is_old_spec && !is_malayalam(self.script)
+        !self.is_old_spec && !self.is(script::MALAYALAM)
     }
 
     /// Whether the text is of a script.
@@ -212,13 +202,5 @@ impl IndicPlan {
     pub(crate) fn virama_glyph<F: FontForms>(&self, font: &F) -> Option<u32> {
         let glyph = font.glyph_of(self.configuration.virama? as u32)?;
         if glyph == 0 { None } else { Some(glyph) }
-    }
-}
-
-/// Whether a script is Malayalam.
-fn is_malayalam(script: Option<Script>) -> bool {
-    match script {
-        Some(script) => script == script::MALAYALAM,
-        None => false,
     }
 }

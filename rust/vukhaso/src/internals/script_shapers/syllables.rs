@@ -107,8 +107,7 @@ impl SyllablePlan {
 /// # Proved
 ///
 /// ```text
-/// ensures kind { is_plan_of shaper result ≡ true }
-/// ensures is { IsSyllablePlan shaper script layout.now result }
+/// ensures { is_plan_of shaper result ≡ true }
 /// ```
 #[inline]
 pub fn syllable_plan(
@@ -122,11 +121,9 @@ pub fn syllable_plan(
         }
         ScriptShaper::Khmer => SyllablePlan::Khmer(khmer::features::plan(layout)),
         ScriptShaper::Myanmar => SyllablePlan::Myanmar,
-        ScriptShaper::Universal => {
-            SyllablePlan::Universal(universal::features::plan(false, layout))
-        }
-        ScriptShaper::UniversalJoining => {
-            SyllablePlan::Universal(universal::features::plan(true, layout))
+        ScriptShaper::Universal | ScriptShaper::UniversalJoining => {
+            let joins = shaper == ScriptShaper::UniversalJoining;
+            SyllablePlan::Universal(universal::features::plan(joins, layout))
         }
         _ => SyllablePlan::None,
     }

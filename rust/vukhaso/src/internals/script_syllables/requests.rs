@@ -1,10 +1,10 @@
 // Written by tools/plain_rust from crates/script_syllables. Do not edit.
 
-//! Features that are asked for together, and what a plan has of one.
+//! Features that are asked for together.
 
 use crate::common::Tag;
 use crate::memory::AllocError;
-use crate::ot_map::{FeatureFlags, LayoutPlan, Pause, PlanBuilder};
+use crate::ot_map::{FeatureFlags, Pause, PlanBuilder};
 
 /// A match ends with its syllable.
 pub const PER_SYLLABLE: FeatureFlags = FeatureFlags {
@@ -93,43 +93,4 @@ fn add_one(
     let flags = FeatureFlags { is_global, ..flags };
     builder.add_feature(Tag::from_bytes(name), flags, 1)?;
     Ok(())
-}
-
-/// The mask of the value 1 of a feature; 0 where the plan does not have it.
-///
-/// # Proved
-///
-/// ```text
-/// ensures { IsOneMask layout.now (tag_of name.now) result }
-/// ```
-#[inline]
-pub fn one_mask(layout: &LayoutPlan, name: &[u8; 4]) -> u32 {
-    let tag = Tag::from_bytes(name);
-    layout.one_mask(tag)
-}
-
-/// Whether the plan has a feature.
-///
-/// # Proved
-///
-/// ```text
-/// ensures { HasFeature layout.now (tag_of name.now) result }
-/// ```
-#[inline]
-pub fn has_feature(layout: &LayoutPlan, name: &[u8; 4]) -> bool {
-    one_mask(layout, name) != 0
-}
-
-/// Whether the font has lookups for a feature.
-///
-/// # Proved
-///
-/// ```text
-/// ensures { HasLookups layout.now (tag_of name.now) result }
-/// ```
-#[inline]
-pub fn has_lookups(layout: &LayoutPlan, name: &[u8; 4]) -> bool {
-    let tag = Tag::from_bytes(name);
-    let places = layout.stage_places(tag);
-    places.start < places.end
 }

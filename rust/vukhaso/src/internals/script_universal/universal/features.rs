@@ -6,7 +6,7 @@
 use crate::common::Tag;
 use crate::memory::AllocError;
 use crate::ot_map::{FeatureFlags, LayoutPlan, Pause, PlanBuilder};
-use crate::script_syllables::requests::{MANUAL_JOINER, PER_SYLLABLE, add_all, one_mask};
+use crate::script_syllables::requests::{MANUAL_JOINER, PER_SYLLABLE, add_all};
 use crate::script_universal::universal::plan::{FormMasks, UniversalPlan};
 
 /// The features of single letters, and whether every glyph has it.
@@ -95,37 +95,27 @@ fn add_recorded_features(builder: &mut PlanBuilder) -> Result<(), AllocError> {
 ///
 /// # Proved
 ///
-/// ```text
-/// ensures { IsUniversalPlan joins layout.now result }
-/// ```
+/// That it returns.
 #[inline]
 pub fn plan(joins: bool, layout: &LayoutPlan) -> UniversalPlan {
+    let forms = if joins {
+        FormMasks::default()
+    } else {
+        FormMasks {
+            isol: form_mask(layout, b"isol"),
+            init: form_mask(layout, b"init"),
+            medi: form_mask(layout, b"medi"),
+            fina: form_mask(layout, b"fina"),
+        }
+    };
     UniversalPlan {
-        rphf: one_mask(layout, b"rphf"),
-        forms: form_masks(joins, layout),
-    }
-}
-
-/// The masks of forms of syllables; none where letters join by themselves.
-fn form_masks(joins: bool, layout: &LayoutPlan) -> FormMasks {
-    if joins {
-        return FormMasks {
-            isol: 0,
-            init: 0,
-            medi: 0,
-            fina: 0,
-        };
-    }
-    FormMasks {
-        isol: form_mask(layout, b"isol"),
-        init: form_mask(layout, b"init"),
-        medi: form_mask(layout, b"medi"),
-        fina: form_mask(layout, b"fina"),
+        rphf: layout.one_mask(Tag::from_bytes(b"rphf")),
+        forms,
     }
 }
 
 /// The mask of a form; 0 where every glyph has it.
 fn form_mask(layout: &LayoutPlan, name: &[u8; 4]) -> u32 {
-    let mask = one_mask(layout, name);
+    let mask = layout.one_mask(Tag::from_bytes(name));
     if mask == layout.global_mask { 0 } else { mask }
 }

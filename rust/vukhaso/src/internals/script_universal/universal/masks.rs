@@ -125,38 +125,8 @@ fn next_form(kind: u8, last: Form) -> Form {
 
 /// Gives the items from `start` to `end` the mask of a form, and takes those of the other forms.
 fn set_form(infos: &mut [hb_glyph_info_t], start: usize, end: usize, masks: &FormMasks, mask: u32) {
-    let end = end.min(infos.len());
-    if start < end {
-        form_within(infos, start, end, masks, mask);
+    let all = masks.all();
+    for place in start..end.min(infos.len()) {
+        infos[place].mask = infos[place].mask & !all | mask;
     }
-}
-
-/// Does that within the list.
-///
-/// # Requires
-///
-/// - `order: start ≤ end`
-/// - `within: end ≤ length infos.old`
-fn form_within(
-    infos: &mut [hb_glyph_info_t],
-    start: usize,
-    end: usize,
-    masks: &FormMasks,
-    mask: u32,
-) {
-    debug_assert!(start <= end);
-    debug_assert!(end <= infos.len());
-    form_all(&mut infos[start..end], masks, mask);
-}
-
-/// Gives these items the mask.
-fn form_all(infos: &mut [hb_glyph_info_t], masks: &FormMasks, mask: u32) {
-    for info in infos.iter_mut() {
-        form_one(info, masks, mask);
-    }
-}
-
-/// Gives an item the mask.
-fn form_one(info: &mut hb_glyph_info_t, masks: &FormMasks, mask: u32) {
-    info.mask = info.mask & !masks.all() | mask;
 }

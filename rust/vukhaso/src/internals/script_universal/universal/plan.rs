@@ -60,9 +60,7 @@ impl FormMasks {
     ///
     /// # Proved
     ///
-    /// ```text
-    /// ensures { result ≡ all_forms self.now }
-    /// ```
+    /// That it returns.
     #[inline]
     pub fn all(&self) -> u32 {
         self.isol | self.init | self.medi | self.fina
