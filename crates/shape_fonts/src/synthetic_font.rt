@@ -275,9 +275,7 @@ pub struct SyntheticNames<'a> {
 
 impl<'a> SyntheticNames<'a> {
     /// The names, and no extents yet.
-    pub fn new(alloc: Global, names: FaceNames<'a>) -> Self
-        ensures { result.names ≡ names }
-    {
+    pub fn new(alloc: Global, names: FaceNames<'a>) -> Self {
         SyntheticNames {
             names,
             extents: BTreeMap::new(alloc),
@@ -285,9 +283,7 @@ impl<'a> SyntheticNames<'a> {
     }
 
     /// The names alone.
-    pub fn into_names(self) -> FaceNames<'a>
-        ensures { result ≡ self.names }
-    {
+    pub fn into_names(self) -> FaceNames<'a> {
         let SyntheticNames { names, extents: _ } = self;
         names
     }

@@ -39,9 +39,7 @@ impl<'a> KeptAdvances<'a> {
     ///
     /// # Proved
     ///
-    /// ```text
-    /// ensures { result.own.face.now ≡ face.now }
-    /// ```
+    /// That it returns.
     #[inline]
     pub fn new(face: &'a Face<'a>) -> Self {
         KeptAdvances {

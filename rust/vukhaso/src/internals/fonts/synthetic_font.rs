@@ -287,9 +287,7 @@ impl<'a> SyntheticNames<'a> {
     ///
     /// # Proved
     ///
-    /// ```text
-    /// ensures { result.names ≡ names }
-    /// ```
+    /// That it returns.
     #[inline]
     pub fn new(names: FaceNames<'a>) -> Self {
         SyntheticNames {
@@ -302,9 +300,7 @@ impl<'a> SyntheticNames<'a> {
     ///
     /// # Proved
     ///
-    /// ```text
-    /// ensures { result ≡ self.names }
-    /// ```
+    /// That it returns.
     #[inline]
     pub fn into_names(self) -> FaceNames<'a> {
         let SyntheticNames { names, extents: _ } = self;
