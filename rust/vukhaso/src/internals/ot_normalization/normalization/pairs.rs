@@ -25,7 +25,6 @@ impl<'a, F> Composing<'a, F> {
     /// # Proved
     ///
     /// ```text
-    /// ensures font { result.font ≡ font }
     /// ensures shaper { result.shaper ≡ script.now.shaper }
     /// ensures marks { result.has_gpos_mark ≡ script.now.has_gpos_mark }
     /// ```
