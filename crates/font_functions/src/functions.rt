@@ -9,17 +9,21 @@ use std::alloc::AllocError;
 /// What a font answers. All measures are at the size at which the font is used. Each time that a character is asked for, there is
 /// a glyph or there is none; all else may be answered otherwise each time. HarfBuzz's name is `hb_font_funcs_t`.
 pub trait FontFunctions {
-    ghost use Rattle.std.specs.Prelude.{ℕ, ℤ, Bool};
+    ghost use Rattle.std.specs.Prelude.{ℕ, ℤ, Bool, Option, option_map};
 
     // whether the font has a glyph for a character
     ghost has: { Self → ℕ → Bool };
+
+    // the glyphs, or none, that a character may have
+    ghost may_have: { Self → ℕ → Option ℕ → Type 0 };
 
     // the advances that a glyph may have in horizontal lines
     ghost may_advance: { Self → ℕ → ℤ → Type 0 };
 
     /// The glyph of a character; `None` where the font has none.
     fn nominal_glyph(&self, character: u32) -> Option<GlyphId>
-        ensures { is_some result ≡ has self.now character };
+        ensures there { is_some result ≡ has self.now character }
+        ensures glyph { may_have self.now character (option_map (λ glyph. glyph.0) result) };
 
     /// The glyph of a character before a variation selector; `None` where the font does not have the two.
     fn variation_glyph(&self, character: u32, selector: u32) -> Option<GlyphId>;

@@ -16,9 +16,11 @@ pub struct OwnFunctions<'a> {
 }
 
 impl FontFunctions for OwnFunctions<'_> {
-    ghost use Rattle.font_functions.specs.OwnFunctions.{has_glyph, IsOwnAdvance};
+    ghost use Rattle.font_functions.specs.OwnFunctions.{has_glyph, IsOwnAdvance, IsOwnGlyph};
 
     ghost has = { λ own. has_glyph own.face.now };
+
+    ghost may_have = { λ own. IsOwnGlyph own.face.now };
 
     ghost may_advance = { λ own. IsOwnAdvance own.face.now };
 

@@ -9,7 +9,15 @@ use ot_map::PlannedLookup;
 use shaping_buffer::hb_buffer_t;
 
 /// How a lookup of the plan is applied.
-pub fn options_of(planned: &PlannedLookup) -> LookupOptions {
+pub fn options_of(planned: &PlannedLookup) -> LookupOptions
+    ensures { result ≡ record {
+      mask = planned.now.mask;
+      auto_zwnj = planned.now.auto_zwnj;
+      auto_zwj = planned.now.auto_zwj;
+      per_syllable = planned.now.per_syllable;
+      random = planned.now.random;
+    } }
+{
     LookupOptions {
         mask: planned.mask,
         auto_zwnj: planned.auto_zwnj,

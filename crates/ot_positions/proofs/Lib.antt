@@ -1,11 +1,10 @@
 -- Why glyphs that are hidden keep the clusters (`ClusterLemmas`), positions that become others glyph by glyph
--- (`WidthsLemmas`, `TrackingLemmas`), advances (`AdvanceLemmas`), walks over clusters (`ClusterFlagsLemmas`), glyphs that are mapped
--- (`MappedLemmas`), and what stands for default ignorables (`EndingLemmas`).
+-- (`WidthsLemmas`, `TrackingLemmas`), advances (`AdvanceLemmas`), walks over clusters (`ClusterFlagsLemmas`), and glyphs that are mapped
+-- (`MappedLemmas`).
 
 pub mod AdvanceLemmas
 pub mod ClusterFlagsLemmas
 pub mod ClusterLemmas
-pub mod EndingLemmas
 pub mod MappedLemmas
 pub mod TrackingLemmas
 pub mod WidthsLemmas

@@ -1,5 +1,5 @@
 -- Glyphs that are not to be seen (HarfBuzz, `hb_ot_deal_with_variation_selectors`, `hb_ot_hide_default_ignorables`).
-use Rattle.std.specs.Prelude.{◌≡◌, ℕ, Bool, ◌==◌, ◌||◌, not, map, Option, Some, None, IsSome, is_none, is_some}
+use Rattle.std.specs.Prelude.{◌≡◌, ℕ, Bool, true, false, ◌==◌, ◌||◌, not, map, Option, Some, None, IsSome, is_none, is_some, option_map}
 use Rattle.std.specs.Prelude.{bit_and, if◌then◌else◌}
 use Rattle.rb_common.specs.declared.glyph_id.GlyphId.{GlyphId}
 use Rattle.rb_glyph.specs.declared.flag_sets.TheConstants.BufferFlags.{REMOVE_DEFAULT_IGNORABLES}
@@ -51,9 +51,10 @@ abbrev pub has_ignorables : State → Bool
 has_ignorables s = not (bit_and s.scratch_flags HB_BUFFER_SCRATCH_FLAG_HAS_DEFAULT_IGNORABLES == 0)
 
 -- the glyph that stands for them is the buffer's, or else that of the font's space, if the font has one
-pub record StandsForThem (has : ℕ → Bool) (invisible glyph : Option GlyphId) : Type 0 where
+pub record StandsForThem (has : ℕ → Bool) (may_have : ℕ → Option ℕ → Type 0) (invisible glyph : Option GlyphId) : Type 0 where
   pub own : IsSome invisible → glyph ≡ invisible
-  pub space : invisible ≡ None → is_some glyph ≡ has 0x20
+  pub there : invisible ≡ None → is_some glyph ≡ has 0x20
+  pub space : invisible ≡ None → may_have 0x20 (option_map (λ g. g.0) glyph)
 
 -- they are taken out where no glyph stands for them, and where the flags say so
 abbrev pub are_removed : State → Bool
@@ -68,7 +69,7 @@ abbrev pub hidden_by : Option GlyphId → State → State
 hidden_by glyph s = record (hide_default_ignorables (flags_shared (record s { invisible = glyph }))) { invisible = s.invisible }
 
 -- `hide_ignorables`
-pub record Hides (has : ℕ → Bool) (old new : State) : Type 0 where
-  pub glyph : Option GlyphId
-  pub stands : StandsForThem has old.invisible glyph
-  pub is : new ≡ (if has_ignorables old then hidden_by glyph old else old)
+pub record Hides (has : ℕ → Bool) (may_have : ℕ → Option ℕ → Type 0) (old new : State) : Type 0 where
+  pub none : has_ignorables old ≡ false → new ≡ old
+  pub some : has_ignorables old ≡ true
+      → (glyph : Option GlyphId) × (StandsForThem has may_have old.invisible glyph × (new ≡ hidden_by glyph old))

@@ -129,7 +129,7 @@ fn show(info: &mut hb_glyph_info_t, glyph: u32)
 pub fn hide_ignorables<F: FontFunctions>(buffer: &mut hb_buffer_t, font: &F)
     requires closed { buffer.old.have_output ≡ false }
     requires placed { IsSome buffer.old.positions }
-    ensures hides { ending.Hides (F.has font.now) buffer.old buffer.new }
+    ensures hides { ending.Hides (F.has font.now) (F.may_have font.now) buffer.old buffer.new }
     ensures closed { buffer.new.have_output ≡ false }
     ensures placed { IsSome buffer.new.positions }
     ensures keeps { KeepsClusters buffer.old buffer.new }
@@ -156,7 +156,7 @@ fn invisible_of(buffer: &hb_buffer_t) -> Option<GlyphId>
 
 /// The glyph that stands for what is not to be seen: this one, or else that of the font's space.
 fn glyph_for_ignorables<F: FontFunctions>(font: &F, invisible: Option<GlyphId>) -> Option<GlyphId>
-    ensures { ending.StandsForThem (F.has font.now) invisible result }
+    ensures { ending.StandsForThem (F.has font.now) (F.may_have font.now) invisible result }
 {
     match invisible {
         Some(glyph) => Some(glyph),

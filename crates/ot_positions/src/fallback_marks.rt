@@ -1,21 +1,24 @@
 //! Marks in a font that does not position them: each is put over or under its base by the bounds of both and by the combining
 //! class of the mark (HarfBuzz's `_hb_ot_shape_fallback_mark_position`; Unicode Standard, "Combining Classes").
 
-ghost use Rattle.std.specs.Prelude.{◌≡◌, false, IsSome, map};
+ghost use Rattle.std.specs.Prelude.{◌≡◌, false, IfOk, IsSome, map};
 ghost use Rattle.std.specs.List.{prefix_len};
 ghost use Rattle.script_items.specs.Marks.{is_mark};
 ghost use Rattle.shaping_buffer.specs.ClusterStep as step;
 ghost use Rattle.ot_positions.specs.FallbackMarks.{fallback_class, recategorized};
 ghost use Rattle.ot_positions.specs.FallbackMarks.{placed_by_character, class_of_character, is_thai_above, is_lao_above};
 ghost use Rattle.ot_positions.specs.FallbackMarks.{placed_by_class, placed_at_a_side, is_ordered_below, is_ordered_above, within};
+ghost use Rattle.ot_positions.specs.MarkPlacing as placing;
+ghost use Rattle.ot_positions.specs.MarkPlacing.{IsBase, IsPlaced};
 ghost use Rattle.shaping_buffer.specs.KeepsClusters.{KeepsClusters};
 
 use crate::mark_placing::{Line, Marks};
 use crate::widths::zero_mark_width;
 use font_face::Face;
 use font_functions::FontFunctions;
-use ot_layout::ligature_parts::{component_count, ligature_component, ligature_id};
-use rb_common::{Direction, GlyphId};
+use ot_layout::ligature_parts::{component_count, ligature_id};
+use rb_common::{Direction, GlyphId, Script};
+use rb_glyph::GlyphExtents;
 use script_items::glyph_info::is_nonspacing_mark;
 use script_items::item::{is_unicode_mark, modified_combining_class, set_modified_combining_class};
 use shaping_buffer::{GlyphPosition, hb_buffer_t, hb_glyph_info_t};
@@ -237,17 +240,44 @@ fn keep_together(buffer: &mut hb_buffer_t, start: usize, end: usize)
 }
 
 /// How a line runs.
-fn line_of(buffer: &hb_buffer_t, direction: Direction, gap: i32) -> Line {
-    let horizontal = if direction.is_horizontal() {
-        Some(direction)
-    } else {
-        buffer.script.and_then(Direction::from_script)
-    };
+fn line_of(buffer: &hb_buffer_t, direction: Direction, gap: i32) -> Line
+    ensures { result ≡ placing.line_of direction gap buffer.now }
+{
     Line {
         direction: buffer.direction,
-        components_run_right: horizontal == Some(Direction::LeftToRight),
+        components_run_right: runs_right(horizontal_direction(direction, buffer.script)),
         gap,
     }
+}
+
+/// The way in which the components of a ligature stand: in vertical lines that of the script, from left to right where the text has none.
+fn horizontal_direction(direction: Direction, script: Option<Script>) -> Option<Direction>
+    ensures { result ≡ placing.horizontal_direction direction script }
+{
+    if direction.is_horizontal() {
+        return Some(direction);
+    }
+    match script {
+        Some(script) => Direction::from_script(script),
+        None => Some(Direction::LeftToRight),
+    }
+}
+
+/// Whether this way is from left to right.
+fn runs_right(direction: Option<Direction>) -> bool
+    ensures { result ≡ placing.runs_right direction }
+{
+    match direction {
+        Some(direction) => is_left_to_right(direction),
+        None => false,
+    }
+}
+
+/// Whether a direction is from left to right.
+fn is_left_to_right(direction: Direction) -> bool
+    ensures { result ≡ placing.is_left_to_right direction }
+{
+    matches!(direction, Direction::LeftToRight)
 }
 
 /// The next base that has marks behind it, from a place on, and where these end.
@@ -322,14 +352,29 @@ fn marks_around<F: FontFunctions>(
     let Some(glyph) = glyph_of(info) else {
         return Ok(None);
     };
-    let Some(mut bounds) = font.glyph_extents(glyph)? else {
+    let Some(bounds) = font.glyph_extents(glyph)? else {
         return Ok(None);
     };
-    bounds.y_bearing = bounds.y_bearing.wrapping_add(position.y_offset);
-    bounds.x_bearing = 0;
-    bounds.width = font.glyph_h_advance(glyph);
+    let base = base_of(font, glyph, bounds, position);
     let parts = (ligature_id(info), component_count(info));
-    Ok(Some(Marks::new(line, bounds, position, parts, line.gap)))
+    Ok(Some(Marks::new(line, base, position, parts)))
+}
+
+/// What marks are put around, by the bounds of the base: it is as wide as its advance, and stands as much higher as it was moved up.
+fn base_of<F: FontFunctions>(
+    font: &F,
+    glyph: GlyphId,
+    bounds: GlyphExtents,
+    position: &GlyphPosition,
+) -> GlyphExtents
+    ensures { IsBase (F.may_advance font.now glyph.0) bounds position.now result }
+{
+    GlyphExtents {
+        x_bearing: 0,
+        y_bearing: bounds.y_bearing.wrapping_add(position.y_offset),
+        width: font.glyph_h_advance(glyph),
+        height: bounds.height,
+    }
 }
 
 /// The glyph of an item, which has 16 bits.
@@ -346,18 +391,25 @@ fn position_mark<F: FontFunctions>(
     font: &F,
     info: &hb_glyph_info_t,
     position: &mut GlyphPosition,
-) -> Result<(), AllocError> {
-    let class = modified_combining_class(info);
-    if class == 0 {
+) -> Result<(), AllocError>
+    ensures { IfOk result (λ _. IsPlaced info.now marks.old position.old marks.new position.new) }
+{
+    if modified_combining_class(info) == 0 {
         marks.pass(position);
         return Ok(());
     }
-    marks.choose_component(ligature_id(info), ligature_component(info));
-    marks.choose_class(class);
-    let bounds = match glyph_of(info) {
-        Some(glyph) => font.glyph_extents(glyph)?,
-        None => None,
-    };
-    marks.place(class, bounds, position);
+    let bounds = bounds_of(font, info)?;
+    marks.place(info, bounds, position);
     Ok(())
+}
+
+/// The bounds that the font has of an item's glyph.
+fn bounds_of<F: FontFunctions>(
+    font: &F,
+    info: &hb_glyph_info_t,
+) -> Result<Option<GlyphExtents>, AllocError> {
+    match glyph_of(info) {
+        Some(glyph) => font.glyph_extents(glyph),
+        None => Ok(None),
+    }
 }

@@ -1,8 +1,17 @@
 //! Where marks stand around a base, by the bounds of both and by combining classes.
 
+ghost use Rattle.std.specs.Prelude.{◌≡◌, ◌≤◌};
+ghost use Rattle.ot_positions.specs.MarkPlacing as placing;
+
+use crate::mark_stack::{across, stack_up};
+use ot_layout::ligature_parts::{ligature_component, ligature_id};
 use rb_common::Direction;
 use rb_glyph::GlyphExtents;
-use shaping_buffer::GlyphPosition;
+use script_items::item::modified_combining_class;
+use shaping_buffer::{GlyphPosition, hb_glyph_info_t};
+
+/// A number that no combining class has.
+const NO_CLASS: u16 = 255;
 
 /// How a line runs.
 #[derive(Clone, Copy)]
@@ -27,10 +36,10 @@ pub(crate) struct Marks {
     stack: GlyphExtents,
     /// The number of the base as a ligature, and how many components it has.
     parts: (u8, u8),
-    last_component: Option<i32>,
-    last_class: Option<u16>,
-    /// How far marks stand from the base, and from one another.
-    gap: i32,
+    /// The component of the last mark; -1 before the first one.
+    last_component: i32,
+    /// The class of the last mark of the component.
+    last_class: u16,
     /// How far it is from a mark back to the base.
     back: (i32, i32),
 }
@@ -43,155 +52,202 @@ impl Marks {
         base: GlyphExtents,
         position: &GlyphPosition,
         parts: (u8, u8),
-        gap: i32,
-    ) -> Self {
-        let back = if line.direction.is_forward() {
-            (
-                position.x_advance.wrapping_neg(),
-                position.y_advance.wrapping_neg(),
-            )
-        } else {
-            (0, 0)
-        };
+    ) -> Self
+        ensures { result ≡ placing.no_marks line base position.now parts }
+    {
         Marks {
             line,
             base,
             component: base,
             stack: base,
             parts,
-            last_component: None,
-            last_class: None,
-            gap,
-            back,
+            last_component: -1,
+            last_class: NO_CLASS,
+            back: back_from(line.direction, position),
         }
     }
 
     /// Passes over an item that is no mark with a class.
-    pub(crate) fn pass(&mut self, position: &GlyphPosition) {
+    pub(crate) fn pass(&mut self, position: &GlyphPosition)
+        ensures { self.new ≡ placing.passed position.now self.old }
+    {
+        let direction = self.line.direction;
         let (x, y) = self.back;
-        self.back = if self.line.direction.is_forward() {
-            (
-                x.wrapping_sub(position.x_advance),
-                y.wrapping_sub(position.y_advance),
-            )
-        } else {
-            (
-                x.wrapping_add(position.x_advance),
-                y.wrapping_add(position.y_advance),
-            )
-        };
+        self.back = (
+            farther(direction, x, position.x_advance),
+            farther(direction, y, position.y_advance),
+        );
     }
 
-    /// Takes the component of the base that a mark belongs to, by the mark's number of a ligature and of a component. A mark
-    /// of no component belongs to the last one.
-    pub(crate) fn choose_component(&mut self, ligature: u8, component: u8) {
-        let (own, count) = self.parts;
-        if count < 2 {
+    /// Begins to put marks around what a mark with a class is put to, unless the last mark was put to it too.
+    fn choose(&mut self, info: &hb_glyph_info_t)
+        ensures { self.new ≡ placing.chosen info.now self.old }
+    {
+        self.choose_component(ligature_id(info), ligature_component(info));
+        self.choose_class(modified_combining_class(info));
+    }
+
+    /// Takes the component of the base that a mark belongs to, by the mark's number of a ligature and of a component.
+    #[tactic(auto, unfolding(crate::specs::MarkPlacing::in_component))]
+    fn choose_component(&mut self, ligature: u8, component: u8)
+        ensures { self.new ≡ placing.in_component ligature component self.old }
+    {
+        let parts = self.parts;
+        if parts.1 < 2 {
             return;
         }
-        let count = i32::from(count);
-        let mut number = i32::from(component) - 1;
-        if own == 0 || own != ligature || number >= count {
-            number = count - 1;
-        }
-        if self.last_component == Some(number) {
+        self.take_component(component_of(parts, ligature, component));
+    }
+
+    /// Takes the component with this number.
+    #[tactic(auto, unfolding(crate::specs::MarkPlacing::at_component))]
+    fn take_component(&mut self, number: i32)
+        requires { 2 ≤ self.old.parts.1 }
+        ensures { self.new ≡ placing.at_component number self.old }
+    {
+        if self.last_component == number {
             return;
         }
-        self.last_component = Some(number);
-        self.last_class = None;
-        let steps = if self.line.components_run_right {
-            number
-        } else {
-            count - 1 - number
-        };
-        self.component = self.base;
-        let way = steps.wrapping_mul(self.base.width) / count;
-        self.component.x_bearing = self.base.x_bearing.wrapping_add(way);
-        self.component.width = self.base.width / count;
+        let (_, count) = self.parts;
+        self.last_component = number;
+        self.last_class = NO_CLASS;
+        self.component = part_of(self.line.components_run_right, count, number, self.base);
     }
 
     /// Begins to put marks of a class around the component, unless the last mark was of this class too.
-    pub(crate) fn choose_class(&mut self, class: u16) {
-        if self.last_class != Some(class) {
-            self.last_class = Some(class);
-            self.stack = self.component;
+    #[tactic(auto, unfolding(crate::specs::MarkPlacing::of_class))]
+    fn choose_class(&mut self, class: u16)
+        ensures { self.new ≡ placing.of_class class self.old }
+    {
+        if self.last_class == class {
+            return;
         }
+        self.last_class = class;
+        self.stack = self.component;
     }
 
-    /// Puts a mark with these bounds around the marks of its class; a mark without bounds stays where it is.
+    /// Puts a mark with a class around the marks so far; a mark without bounds stays where it is.
+    #[tactic(auto, unfolding(crate::specs::MarkPlacing::marks_with, crate::specs::MarkPlacing::placed_by))]
     pub(crate) fn place(
         &mut self,
-        class: u16,
-        mark: Option<GlyphExtents>,
+        info: &hb_glyph_info_t,
+        bounds: Option<GlyphExtents>,
         position: &mut GlyphPosition,
-    ) {
+    )
+        ensures marks { self.new ≡ placing.marks_with info.now bounds self.old }
+        ensures position { position.new ≡ placing.placed_by info.now bounds self.old position.old }
+    {
+        self.choose(info);
+        let back = self.back;
+        self.put(modified_combining_class(info), bounds, position);
+        move_back(position, back);
+    }
+
+    /// Moves a mark so far as it stands from the base, if it has bounds.
+    #[tactic(auto, unfolding(crate::specs::MarkPlacing::put, crate::specs::MarkPlacing::stack_with, crate::specs::MarkPlacing::with_mark))]
+    fn put(&mut self, class: u16, mark: Option<GlyphExtents>, position: &mut GlyphPosition)
+        ensures marks { self.new ≡ placing.with_mark class mark self.old }
+        ensures position { position.new ≡ placing.put self.old class mark position.old }
+    {
         if let Some(mark) = mark {
-            position.x_offset = self.across(class, mark);
-            position.y_offset = self.upwards(class, mark);
-        }
-        position.x_advance = 0;
-        position.y_advance = 0;
-        position.x_offset = position.x_offset.wrapping_add(self.back.0);
-        position.y_offset = position.y_offset.wrapping_add(self.back.1);
-    }
-
-    /// How far to the right a mark is moved: to the left side, to the right side or to the middle, or between two bases.
-    fn across(&self, class: u16, mark: GlyphExtents) -> i32 {
-        let stack = self.stack;
-        let room = stack.width.wrapping_sub(mark.width);
-        let place = match (class, self.line.direction) {
-            (233 | 234, Direction::LeftToRight) => stack.width.wrapping_sub(mark.width / 2),
-            (233 | 234, Direction::RightToLeft) => (mark.width / 2).wrapping_neg(),
-            (200 | 218 | 228, _) => 0,
-            (216 | 222 | 232, _) => room,
-            _ => room / 2,
-        };
-        stack
-            .x_bearing
-            .wrapping_add(place)
-            .wrapping_sub(mark.x_bearing)
-    }
-
-    /// How far up a mark is moved: under the marks so far, or over them.
-    fn upwards(&mut self, class: u16, mark: GlyphExtents) -> i32 {
-        match class {
-            218 | 220 | 222 | 233 => self.below(self.gap, mark),
-            200 | 202 => self.below(0, mark),
-            228 | 230 | 232 | 234 => self.above(self.gap, mark),
-            214 | 216 => self.above(0, mark),
-            _ => 0,
+            position.x_offset = across(class, self.line.direction, &self.stack, &mark);
+            position.y_offset = stack_up(self.line.gap, class, &mut self.stack, &mark);
         }
     }
+}
 
-    /// How far up a mark is moved that stands below: never up.
-    fn below(&mut self, gap: i32, mark: GlyphExtents) -> i32 {
-        let stack = &mut self.stack;
-        stack.height = stack.height.wrapping_sub(gap);
-        let bottom = stack.y_bearing.wrapping_add(stack.height);
-        let mut up = bottom.wrapping_sub(mark.y_bearing);
-        if (self.gap > 0) == (up > 0) {
-            stack.height = stack.height.wrapping_sub(up);
-            up = 0;
-        }
-        stack.height = stack.height.wrapping_add(mark.height);
-        up
+/// How far it is back to a base at this position.
+#[tactic(auto, unfolding(crate::specs::MarkPlacing::back_from))]
+fn back_from(direction: Direction, position: &GlyphPosition) -> (i32, i32)
+    ensures { result ≡ placing.back_from direction position.now }
+{
+    if direction.is_forward() {
+        (
+            position.x_advance.wrapping_neg(),
+            position.y_advance.wrapping_neg(),
+        )
+    } else {
+        (0, 0)
     }
+}
 
-    /// How far up a mark is moved that stands above: down only by half of the way.
-    fn above(&mut self, gap: i32, mark: GlyphExtents) -> i32 {
-        let stack = &mut self.stack;
-        stack.y_bearing = stack.y_bearing.wrapping_add(gap);
-        stack.height = stack.height.wrapping_sub(gap);
-        let bottom = mark.y_bearing.wrapping_add(mark.height);
-        let mut up = stack.y_bearing.wrapping_sub(bottom);
-        if (self.gap > 0) != (up > 0) {
-            let correction = up.wrapping_neg() / 2;
-            stack.y_bearing = stack.y_bearing.wrapping_add(correction);
-            stack.height = stack.height.wrapping_sub(correction);
-            up = up.wrapping_add(correction);
-        }
-        stack.y_bearing = stack.y_bearing.wrapping_sub(mark.height);
-        stack.height = stack.height.wrapping_add(mark.height);
-        up
+/// How far it is back to the base behind an item with this advance.
+#[tactic(auto, unfolding(crate::specs::MarkPlacing::farther))]
+fn farther(direction: Direction, back: i32, advance: i32) -> i32
+    ensures { result ≡ placing.farther direction back advance }
+{
+    if direction.is_forward() {
+        back.wrapping_sub(advance)
+    } else {
+        back.wrapping_add(advance)
     }
+}
+
+/// The number of the component of a ligature that a mark belongs to, from 0 on. A mark of another ligature, or of a component that this
+/// one does not have, belongs to the last one.
+#[tactic(auto, unfolding(crate::specs::MarkPlacing::component_of))]
+fn component_of(parts: (u8, u8), ligature: u8, component: u8) -> i32
+    ensures { result ≡ placing.component_of parts ligature component }
+{
+    let (own, count) = parts;
+    if own == 0 || own != ligature || component > count {
+        i32::from(count) - 1
+    } else {
+        i32::from(component) - 1
+    }
+}
+
+/// The part of a ligature's bounds that a component has, of so many.
+#[tactic(auto, unfolding(crate::specs::MarkPlacing::part_of))]
+fn part_of(run_right: bool, count: u8, number: i32, base: GlyphExtents) -> GlyphExtents
+    requires { 2 ≤ count }
+    ensures { result ≡ placing.part_of run_right count number base }
+{
+    let steps = steps_to(run_right, count, number);
+    GlyphExtents {
+        x_bearing: start_of(base.x_bearing, steps, base.width, count),
+        width: share_of(base.width, count),
+        ..base
+    }
+}
+
+/// Where a component begins that so many stand on the left of.
+#[tactic(auto, unfolding(crate::specs::MarkPlacing::start_of))]
+fn start_of(start: i32, steps: i32, width: i32, count: u8) -> i32
+    requires { 2 ≤ count }
+    ensures { result ≡ placing.start_of start steps width count }
+{
+    start.wrapping_add(steps.wrapping_mul(width) / i32::from(count))
+}
+
+/// How wide a component is, of so many.
+#[tactic(auto, unfolding(crate::specs::MarkPlacing::share_of))]
+fn share_of(width: i32, count: u8) -> i32
+    requires { 2 ≤ count }
+    ensures { result ≡ placing.share_of width count }
+{
+    width / i32::from(count)
+}
+
+/// How many components stand on the left of one.
+#[tactic(auto, unfolding(crate::specs::MarkPlacing::steps_to))]
+fn steps_to(run_right: bool, count: u8, number: i32) -> i32
+    ensures { result ≡ placing.steps_to run_right count number }
+{
+    if run_right {
+        number
+    } else {
+        (i32::from(count) - 1).wrapping_sub(number)
+    }
+}
+
+/// Moves a mark back to its base, and takes its advance.
+#[tactic(auto, unfolding(crate::specs::MarkPlacing::moved_back))]
+fn move_back(position: &mut GlyphPosition, back: (i32, i32))
+    ensures { position.new ≡ placing.moved_back back position.old }
+{
+    position.x_advance = 0;
+    position.y_advance = 0;
+    position.x_offset = position.x_offset.wrapping_add(back.0);
+    position.y_offset = position.y_offset.wrapping_add(back.1);
 }

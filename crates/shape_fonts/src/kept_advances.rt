@@ -75,9 +75,11 @@ fn place_of(glyph: GlyphId) -> usize
 }
 
 impl FontFunctions for KeptAdvances<'_> {
-    ghost use Rattle.font_functions.specs.OwnFunctions.{has_glyph, IsOwnAdvance};
+    ghost use Rattle.font_functions.specs.OwnFunctions.{has_glyph, IsOwnAdvance, IsOwnGlyph};
 
     ghost has = { λ kept. has_glyph kept.own.face.now };
+
+    ghost may_have = { λ kept. IsOwnGlyph kept.own.face.now };
 
     ghost may_advance = { λ kept. IsOwnAdvance kept.own.face.now };
 

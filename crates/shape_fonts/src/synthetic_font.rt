@@ -33,7 +33,11 @@ pub struct SyntheticFont<'a> {
 
 impl<'a> SyntheticFont<'a> {
     /// A font of which glyphs are drawn so, at its size.
-    pub fn new(face: &'a Face<'a>, synthetic: Synthetic, not_found: GlyphId) -> Self {
+    pub fn new(face: &'a Face<'a>, synthetic: Synthetic, not_found: GlyphId) -> Self
+        ensures font { result.own.face.now ≡ face.now }
+        ensures in_place { result.in_place ≡ synthetic.in_place }
+        ensures not_found { result.not_found ≡ not_found }
+    {
         let (x, y) = (face.scale.x, face.scale.y);
         SyntheticFont {
             own: OwnFunctions { face },
@@ -184,10 +188,12 @@ fn bolder_advance(in_place: bool, strength: i32, advance: i32) -> i32
 }
 
 impl FontFunctions for SyntheticFont<'_> {
-    ghost use Rattle.font_functions.specs.OwnFunctions.{has_glyph};
+    ghost use Rattle.font_functions.specs.OwnFunctions.{has_glyph, IsOwnGlyph};
     ghost use Rattle.shape_fonts.specs.SyntheticFont.{IsBolderAdvance};
 
     ghost has = { λ font. has_glyph font.own.face.now };
+
+    ghost may_have = { λ font. IsOwnGlyph font.own.face.now };
 
     ghost may_advance = { λ font. IsBolderAdvance font };
 

@@ -22,7 +22,10 @@ pub(crate) struct Composing<'a, F> {
 
 impl<'a, F> Composing<'a, F> {
     /// How they are composed in a script, with this font.
-    pub fn new(font: &'a F, script: &ScriptPlan) -> Self {
+    pub fn new(font: &'a F, script: &ScriptPlan) -> Self
+        ensures shaper { result.shaper ≡ script.now.shaper }
+        ensures marks { result.has_gpos_mark ≡ script.now.has_gpos_mark }
+    {
         Composing {
             font,
             shaper: script.shaper,

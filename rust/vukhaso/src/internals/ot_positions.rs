@@ -10,6 +10,7 @@ mod fallback_spaces;
 mod glyph_info;
 mod kept_positions;
 mod mark_placing;
+mod mark_stack;
 mod positions;
 mod tracking;
 mod widths;

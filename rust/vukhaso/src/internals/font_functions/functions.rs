@@ -13,6 +13,7 @@ use crate::memory::AllocError;
 ///
 /// ```text
 /// ghost has: { Self → ℕ → Bool }
+/// ghost may_have: { Self → ℕ → Option ℕ → Type 0 }
 /// ghost may_advance: { Self → ℕ → ℤ → Type 0 }
 /// ```
 pub trait FontFunctions {
@@ -21,7 +22,8 @@ pub trait FontFunctions {
     /// # Proved
     ///
     /// ```text
-    /// ensures { is_some result ≡ has self.now character }
+    /// ensures there { is_some result ≡ has self.now character }
+    /// ensures glyph { may_have self.now character (option_map (λ glyph. glyph.0) result) }
     /// ```
     fn nominal_glyph(&self, character: u32) -> Option<GlyphId>;
 

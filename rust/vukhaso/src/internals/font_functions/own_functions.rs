@@ -20,6 +20,7 @@ pub struct OwnFunctions<'a> {
 ///
 /// ```text
 /// ghost has = { λ own. has_glyph own.face.now }
+/// ghost may_have = { λ own. IsOwnGlyph own.face.now }
 /// ghost may_advance = { λ own. IsOwnAdvance own.face.now }
 /// ```
 impl FontFunctions for OwnFunctions<'_> {

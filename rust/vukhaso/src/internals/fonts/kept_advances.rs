@@ -96,6 +96,7 @@ fn place_of(glyph: GlyphId) -> usize {
 ///
 /// ```text
 /// ghost has = { λ kept. has_glyph kept.own.face.now }
+/// ghost may_have = { λ kept. IsOwnGlyph kept.own.face.now }
 /// ghost may_advance = { λ kept. IsOwnAdvance kept.own.face.now }
 /// ```
 impl FontFunctions for KeptAdvances<'_> {

@@ -34,7 +34,11 @@ impl<'a> SyntheticFont<'a> {
     ///
     /// # Proved
     ///
-    /// That it returns.
+    /// ```text
+    /// ensures font { result.own.face.now ≡ face.now }
+    /// ensures in_place { result.in_place ≡ synthetic.in_place }
+    /// ensures not_found { result.not_found ≡ not_found }
+    /// ```
     #[inline]
     pub fn new(face: &'a Face<'a>, synthetic: Synthetic, not_found: GlyphId) -> Self {
         let (x, y) = (face.scale.x, face.scale.y);
@@ -190,6 +194,7 @@ fn bolder_advance(in_place: bool, strength: i32, advance: i32) -> i32 {
 ///
 /// ```text
 /// ghost has = { λ font. has_glyph font.own.face.now }
+/// ghost may_have = { λ font. IsOwnGlyph font.own.face.now }
 /// ghost may_advance = { λ font. IsBolderAdvance font }
 /// ```
 impl FontFunctions for SyntheticFont<'_> {

@@ -10,7 +10,15 @@ use crate::ot_map::PlannedLookup;
 ///
 /// # Proved
 ///
-/// That it returns.
+/// ```text
+/// ensures { result ≡ record {
+///       mask = planned.now.mask;
+///       auto_zwnj = planned.now.auto_zwnj;
+///       auto_zwj = planned.now.auto_zwj;
+///       per_syllable = planned.now.per_syllable;
+///       random = planned.now.random;
+///     } }
+/// ```
 #[inline]
 pub fn options_of(planned: &PlannedLookup) -> LookupOptions {
     LookupOptions {

@@ -128,7 +128,7 @@ fn show(info: &mut hb_glyph_info_t, glyph: u32) {
 /// # Proved
 ///
 /// ```text
-/// ensures hides { ending.Hides (F.has font.now) buffer.old buffer.new }
+/// ensures hides { ending.Hides (F.has font.now) (F.may_have font.now) buffer.old buffer.new }
 /// ensures closed { buffer.new.have_output ≡ false }
 /// ensures placed { IsSome buffer.new.positions }
 /// ensures keeps { KeepsClusters buffer.old buffer.new }

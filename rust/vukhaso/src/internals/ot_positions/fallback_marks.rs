@@ -4,11 +4,12 @@
 //! class of the mark (HarfBuzz's `_hb_ot_shape_fallback_mark_position`; Unicode Standard, "Combining Classes").
 
 use crate::buffer::{GlyphPosition, hb_buffer_t, hb_glyph_info_t};
-use crate::common::{Direction, GlyphId};
+use crate::common::{Direction, GlyphId, Script};
 use crate::font_face::Face;
 use crate::font_functions::FontFunctions;
+use crate::glyph::GlyphExtents;
 use crate::memory::AllocError;
-use crate::ot_layout::ligature_parts::{component_count, ligature_component, ligature_id};
+use crate::ot_layout::ligature_parts::{component_count, ligature_id};
 use crate::ot_positions::mark_placing::{Line, Marks};
 use crate::ot_positions::widths::zero_mark_width;
 use crate::script_items::glyph_info::is_nonspacing_mark;
@@ -235,16 +236,36 @@ fn keep_together(buffer: &mut hb_buffer_t, start: usize, end: usize) {
 
 /// How a line runs.
 fn line_of(buffer: &hb_buffer_t, direction: Direction, gap: i32) -> Line {
-    let horizontal = if direction.is_horizontal() {
-        Some(direction)
-    } else {
-        buffer.script.and_then(Direction::from_script)
-    };
     Line {
         direction: buffer.direction,
-        components_run_right: horizontal == Some(Direction::LeftToRight),
+        components_run_right: runs_right(horizontal_direction(direction, buffer.script)),
         gap,
     }
+}
+
+/// The way in which the components of a ligature stand: in vertical lines that of the script, from left
+/// to right where the text has none.
+fn horizontal_direction(direction: Direction, script: Option<Script>) -> Option<Direction> {
+    if direction.is_horizontal() {
+        return Some(direction);
+    }
+    match script {
+        Some(script) => Direction::from_script(script),
+        None => Some(Direction::LeftToRight),
+    }
+}
+
+/// Whether this way is from left to right.
+fn runs_right(direction: Option<Direction>) -> bool {
+    match direction {
+        Some(direction) => is_left_to_right(direction),
+        None => false,
+    }
+}
+
+/// Whether a direction is from left to right.
+fn is_left_to_right(direction: Direction) -> bool {
+    matches!(direction, Direction::LeftToRight)
 }
 
 /// The next base that has marks behind it, from a place on, and where these end.
@@ -322,14 +343,28 @@ fn marks_around<F: FontFunctions>(
     let Some(glyph) = glyph_of(info) else {
         return Ok(None);
     };
-    let Some(mut bounds) = font.glyph_extents(glyph)? else {
+    let Some(bounds) = font.glyph_extents(glyph)? else {
         return Ok(None);
     };
-    bounds.y_bearing = bounds.y_bearing.wrapping_add(position.y_offset);
-    bounds.x_bearing = 0;
-    bounds.width = font.glyph_h_advance(glyph);
+    let base = base_of(font, glyph, bounds, position);
     let parts = (ligature_id(info), component_count(info));
-    Ok(Some(Marks::new(line, bounds, position, parts, line.gap)))
+    Ok(Some(Marks::new(line, base, position, parts)))
+}
+
+/// What marks are put around, by the bounds of the base: it is as wide as its advance, and stands as
+/// much higher as it was moved up.
+fn base_of<F: FontFunctions>(
+    font: &F,
+    glyph: GlyphId,
+    bounds: GlyphExtents,
+    position: &GlyphPosition,
+) -> GlyphExtents {
+    GlyphExtents {
+        x_bearing: 0,
+        y_bearing: bounds.y_bearing.wrapping_add(position.y_offset),
+        width: font.glyph_h_advance(glyph),
+        height: bounds.height,
+    }
 }
 
 /// The glyph of an item, which has 16 bits.
@@ -348,17 +383,22 @@ fn position_mark<F: FontFunctions>(
     info: &hb_glyph_info_t,
     position: &mut GlyphPosition,
 ) -> Result<(), AllocError> {
-    let class = modified_combining_class(info);
-    if class == 0 {
+    if modified_combining_class(info) == 0 {
         marks.pass(position);
         return Ok(());
     }
-    marks.choose_component(ligature_id(info), ligature_component(info));
-    marks.choose_class(class);
-    let bounds = match glyph_of(info) {
-        Some(glyph) => font.glyph_extents(glyph)?,
-        None => None,
-    };
-    marks.place(class, bounds, position);
+    let bounds = bounds_of(font, info)?;
+    marks.place(info, bounds, position);
     Ok(())
+}
+
+/// The bounds that the font has of an item's glyph.
+fn bounds_of<F: FontFunctions>(
+    font: &F,
+    info: &hb_glyph_info_t,
+) -> Result<Option<GlyphExtents>, AllocError> {
+    match glyph_of(info) {
+        Some(glyph) => font.glyph_extents(glyph),
+        None => Ok(None),
+    }
 }

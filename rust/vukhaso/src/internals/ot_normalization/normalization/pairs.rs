@@ -24,7 +24,10 @@ impl<'a, F> Composing<'a, F> {
     ///
     /// # Proved
     ///
-    /// That it returns.
+    /// ```text
+    /// ensures shaper { result.shaper ≡ script.now.shaper }
+    /// ensures marks { result.has_gpos_mark ≡ script.now.has_gpos_mark }
+    /// ```
     #[inline]
     pub fn new(font: &'a F, script: &ScriptPlan) -> Self {
         Composing {
