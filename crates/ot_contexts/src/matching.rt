@@ -11,6 +11,7 @@ ghost use Rattle.ot_layout.specs.declared.matcher.Matcher.{Matcher};
 ghost use Rattle.ot_layout.specs.Budget.{IsNotMore};
 ghost use Rattle.ot_layout.specs.LigatureParts.{may_join};
 ghost use Rattle.ot_contexts.specs.Match.{lookahead_end, backtrack_start, joins, match_end, match_places, may_leave, next_place, previous_place};
+ghost use Rattle.ot_contexts.specs.Reach.{end_index, end_position, match_start, next_end, previous_start};
 ghost use Rattle.ot_layout.specs.ApplyContext.{input_iterator};
 
 use crate::rule::Sequence;
@@ -41,6 +42,8 @@ fn step_ahead(
         next_place iterator.now (sequence_matcher part.now index) glyphs.now place ≡ Some next) }
     ensures missed { 0 < budget.new.steps → IfErr result (λ to.
         next_place iterator.now (sequence_matcher part.now index) glyphs.now place ≡ None) }
+    ensures looked { 0 < budget.new.steps → IfErr result (λ to.
+        to ≡ next_end iterator.now (sequence_matcher part.now index) glyphs.now place) }
 {
     let Some(matcher) = part.matcher(index) else {
         return Err(0);
@@ -84,6 +87,8 @@ fn step_behind(
         previous_place iterator.now (sequence_matcher part.now index) glyphs.now place ≡ Some before) }
     ensures missed { 0 < budget.new.steps → IfErr result (λ from.
         previous_place iterator.now (sequence_matcher part.now index) glyphs.now place ≡ None) }
+    ensures looked { 0 < budget.new.steps → IfErr result (λ from.
+        from ≡ previous_start iterator.now (sequence_matcher part.now index) glyphs.now place) }
 {
     let Some(matcher) = part.matcher(index) else {
         return Err(place);
@@ -127,6 +132,8 @@ pub fn match_input(ctx: &ApplyContext, part: &Sequence, search: &mut Search) -> 
         ≡ match_places ctx.now (sequence_matcher part.now) part.now.count) }
     ensures misses { 0 < search.new.budget.steps → IfErr result (λ to.
         match_end ctx.now (sequence_matcher part.now) part.now.count ≡ None) }
+    ensures looked { 0 < search.new.budget.steps → IfErr result (λ to.
+        to ≡ end_position ctx.now (sequence_matcher part.now) part.now.count) }
 {
     search.places.clear();
     search.places.push(0);
@@ -222,6 +229,8 @@ pub fn match_lookahead(
     ensures fits { IfOk result (λ to. lookahead_end ctx.now (sequence_matcher part.now) end part.now.count ≡ Some to) }
     ensures misses { 0 < search.new.budget.steps → IfErr result (λ to.
         lookahead_end ctx.now (sequence_matcher part.now) end part.now.count ≡ None) }
+    ensures looked { 0 < search.new.budget.steps → IfErr result (λ to.
+        to ≡ end_index ctx.now (sequence_matcher part.now) end part.now.count) }
 {
     let iterator = ctx.context_iterator(end == 1);
     let mut place = end - 1;
@@ -248,6 +257,8 @@ pub fn match_backtrack(
     ensures fits { IfOk result (λ from. backtrack_start ctx.now (sequence_matcher part.now) part.now.count ≡ Some from) }
     ensures misses { 0 < search.new.budget.steps → IfErr result (λ from.
         backtrack_start ctx.now (sequence_matcher part.now) part.now.count ≡ None) }
+    ensures looked { 0 < search.new.budget.steps → IfErr result (λ from.
+        from ≡ match_start ctx.now (sequence_matcher part.now) part.now.count) }
 {
     let iterator = ctx.context_iterator(ctx.is_level);
     let mut place = ctx.out.len();

@@ -9,6 +9,7 @@ ghost use Rattle.ot_contexts.specs.Neighbours.{may_fit};
 ghost use Rattle.ot_contexts.specs.Pattern.{IsFitBy, IsFitOf, Pattern, pattern_fits, pattern_of, rule_fits, rule_pattern};
 ghost use Rattle.ot_contexts.specs.Rule.{AreMatchPositions, sequence_matcher};
 ghost use Rattle.ot_contexts.specs.RuleSet.{first_rule, fits_next, looks_first, rule_at, rule_count, rule_of_set};
+ghost use Rattle.ot_contexts.specs.Reach.{extended, missed_range};
 ghost use Rattle.ot_layout.specs.SkippingIterator.{skip_of};
 ghost use Rattle.ot_contexts.specs.declared.rule.MatchFunctions.{MatchFunctions};
 ghost use Rattle.ot_layout.specs.declared.search.ApplyContext.{ApplyContext};
@@ -37,6 +38,8 @@ pub fn fit<'a>(rule: &Rule<'a>, ctx: &ApplyContext, search: &mut Search) -> Opti
     ensures records { IfSome result (λ found. found.records.now ≡ rule.now.records.now) }
     ensures is { IfSome result (IsFitOf ctx.now (pattern_of rule.now) search.new.places.items) }
     ensures exact { 0 < search.new.budget.steps → is_some result ≡ pattern_fits ctx.now (pattern_of rule.now) }
+    ensures looked { 0 < search.new.budget.steps
+        → search.new.reach ≡ extended search.old.reach (missed_range ctx.now (pattern_of rule.now)) }
 {
     let end = match match_input(ctx, &rule.input, search) {
         Ok(end) => end,

@@ -1,8 +1,10 @@
-use Rattle.std.proofs.Common.{ℕ, Option, length, arith, rules}
+use Rattle.std.proofs.Common.{◌∙◌, ℕ, Option, length, arith, rules, sym}
 use Rattle.ot_contexts.specs.Match.{previous_place}
 use Rattle.ot_contexts.specs.Rule.{sequence_matcher}
 use Rattle.ot_layout.specs.declared.matcher.Matcher.{Matcher}
+use Rattle.ot_contexts.specs.Reach.{previous_start}
 use Rattle.ot_contexts.proofs.AroundLemmas.{steps_from-none, steps_from-more, steps_from-missing}
+use Rattle.ot_contexts.proofs.ReachLemmas.{looked_from-missing}
 use Rattle.ot_contexts.proofs.matching.match_backtrack.Goals as goal
 use Rattle.ot_layout.specs.ApplyContext.{context_iterator}
 
@@ -13,6 +15,16 @@ returns-in-Err-clause-misses c some =
     let missing = rw c.context_iterator-iterator.ensures at (c.in-Err.ensures.missed some) in
     steps_from-missing step (sequence_matcher c.args.part.now) (length ctx.out.now) c.args.part.now.count c.loop-index.index
     c.loop-index.place c.loop-index.invariant.steps c.loop-index-test.true missing
+
+pub returns-in-Err-clause-looked : goal.returns-in-Err-clause-looked
+returns-in-Err-clause-looked c some =
+    let ctx = c.args.ctx.now in
+    let step = λ (matcher : Option Matcher) (place : ℕ). previous_place (context_iterator ctx ctx.is_level) matcher ctx.out.now place in
+    let looks = λ (matcher : Option Matcher) (place : ℕ). previous_start (context_iterator ctx ctx.is_level) matcher ctx.out.now place in
+    let missing = rw c.context_iterator-iterator.ensures at (c.in-Err.ensures.missed some) in
+    let looked = rw c.context_iterator-iterator.ensures at (c.in-Err.ensures.looked some) in
+    looked ∙ sym (looked_from-missing step looks (sequence_matcher c.args.part.now) (length ctx.out.now) c.args.part.now.count
+    c.loop-index.index c.loop-index.place c.loop-index.invariant.steps c.loop-index-test.true missing)
 
 pub loop-index-preserved : goal.loop-index-preserved
 loop-index-preserved c =

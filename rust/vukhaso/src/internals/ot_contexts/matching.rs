@@ -121,6 +121,8 @@ fn step_behind(
 ///     ≡ match_places ctx.now (sequence_matcher part.now) part.now.count) }
 /// ensures misses { 0 < search.new.budget.steps → IfErr result (λ to.
 ///     match_end ctx.now (sequence_matcher part.now) part.now.count ≡ None) }
+/// ensures looked { 0 < search.new.budget.steps → IfErr result (λ to.
+///     to ≡ end_position ctx.now (sequence_matcher part.now) part.now.count) }
 /// ```
 pub fn match_input(
     ctx: &ApplyContext,
@@ -217,6 +219,8 @@ fn may_leave_ligature(ctx: &ApplyContext, first: &hb_glyph_info_t, budget: &mut 
 /// ensures fits { IfOk result (λ to. lookahead_end ctx.now (sequence_matcher part.now) end part.now.count ≡ Some to) }
 /// ensures misses { 0 < search.new.budget.steps → IfErr result (λ to.
 ///     lookahead_end ctx.now (sequence_matcher part.now) end part.now.count ≡ None) }
+/// ensures looked { 0 < search.new.budget.steps → IfErr result (λ to.
+///     to ≡ end_index ctx.now (sequence_matcher part.now) end part.now.count) }
 /// ```
 #[inline]
 pub fn match_lookahead(
@@ -255,6 +259,8 @@ pub fn match_lookahead(
 /// ensures fits { IfOk result (λ from. backtrack_start ctx.now (sequence_matcher part.now) part.now.count ≡ Some from) }
 /// ensures misses { 0 < search.new.budget.steps → IfErr result (λ from.
 ///     backtrack_start ctx.now (sequence_matcher part.now) part.now.count ≡ None) }
+/// ensures looked { 0 < search.new.budget.steps → IfErr result (λ from.
+///     from ≡ match_start ctx.now (sequence_matcher part.now) part.now.count) }
 /// ```
 #[inline]
 pub fn match_backtrack(

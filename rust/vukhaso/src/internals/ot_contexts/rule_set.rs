@@ -29,6 +29,8 @@ use crate::ot_layout::skipping_iterator::Skip;
 /// ensures records { IfSome result (λ found. found.records.now ≡ rule.now.records.now) }
 /// ensures is { IfSome result (IsFitOf ctx.now (pattern_of rule.now) search.new.places.items) }
 /// ensures exact { 0 < search.new.budget.steps → is_some result ≡ pattern_fits ctx.now (pattern_of rule.now) }
+/// ensures looked { 0 < search.new.budget.steps
+///     → search.new.reach ≡ extended search.old.reach (missed_range ctx.now (pattern_of rule.now)) }
 /// ```
 pub fn fit<'a>(rule: &Rule<'a>, ctx: &ApplyContext, search: &mut Search) -> Option<Fit<'a>> {
     let end = match match_input(ctx, &rule.input, search) {
