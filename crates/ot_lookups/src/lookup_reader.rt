@@ -15,8 +15,8 @@ use crate::lookup_props::LookupProps;
 use crate::reading::{count_at, coverage_numbers, has_next, quick_classes, summaries_of_all};
 use crate::seconds::seconds_of;
 use crate::subtable::{
-    Form, MAX_CONTEXT_LENGTH, NextAsked, Subtable, behind_extension, behind_list, input_classes_at, positioning_form,
-    substitution_form, table_or_empty,
+    Form, MAX_CONTEXT_LENGTH, NextAsked, Subtable, behind_extension, behind_list, input_classes_at,
+    positioning_form, substitution_form, table_or_empty,
 };
 use crate::subtable_limit::subtable_count;
 use font_tables::bytes::{part, table_at_16, tail, u16_at};
