@@ -1,5 +1,5 @@
 -- The forms of subtables, and which are contexts by coverages, chained or not.
-use Rattle.std.specs.Prelude.{ℕ, ◌==◌, ◌&&◌, ◌||◌, Bool, false, true, if◌then◌else◌}
+use Rattle.std.specs.Prelude.{ℕ, ◌==◌, ◌&&◌, ◌||◌, Bool, false, true, Option, Some, None, if◌then◌else◌}
 use Rattle.ot_lookups.specs.declared.subtable.Form.{Form}
 use Rattle.ot_lookups.specs.declared.subtable.Form.TheVariants.{Plain, Glyphs, Classes, ChainedClasses, Coverages, ChainedCoverages, Reverse, PairClasses, Marks}
 
@@ -26,6 +26,14 @@ positioning_form lookup_type format =
     else if lookup_type == 7 then context_form format false
     else if lookup_type == 8 then context_form format true
     else Plain
+
+-- where subtables of a form have the offset of the classes of their input: contexts behind their coverage, chained ones behind the classes
+-- of what stands before it too, and pairs behind their formats
+abbrev pub input_classes_at : Form → Option ℕ
+input_classes_at Classes = Some 4
+input_classes_at ChainedClasses = Some 6
+input_classes_at PairClasses = Some 8
+input_classes_at _ = None
 
 -- whether contexts of this kind are chained: those of kind 6 of `GSUB` and 8 of `GPOS` are, those of the kinds 5 and 7 are not
 abbrev pub is_chained_type : ℕ → Bool

@@ -1,7 +1,7 @@
 -- Lookups, by the bytes of their list (OpenType specification, "OpenType Layout Common Table Formats", "Lookup List table", "Lookup
 -- table").
 use Rattle.std.specs.Prelude.{ℕ, zero, suc, ◌+◌, ◌*◌, ◌++◌, ◌∷◌, List, [], unwrap_or, option_map, if◌then◌else◌}
-use Rattle.font_tables.specs.Bytes.{number_16, table_at_16}
+use Rattle.font_tables.specs.Bytes.{is_number, number_16, table_at_16, table_at_32}
 use Rattle.font_tables.specs.Gdef.{mark_glyph_set}
 use Rattle.font_tables.specs.Rows.{rows_within}
 use Rattle.ot_lookups.specs.LookupProps.{share}
@@ -47,3 +47,10 @@ heads_of_first gdef list (suc n) =
 abbrev pub heads_in : List ℕ → List ℕ → List Head
 heads_in gdef list =
     if has_too_many list then [] else heads_of_first gdef list (rows_within list 2 2 (lookup_count list))
+
+-- the kind of the subtable behind an extension, which has one format, and its table; no kind and no table behind another format
+abbrev pub extended_kind : List ℕ → ℕ
+extended_kind table = if is_number (number_16 table 0) 1 then unwrap_or (number_16 table 2) 0 else 0
+
+abbrev pub extended_table : List ℕ → List ℕ
+extended_table table = if is_number (number_16 table 0) 1 then unwrap_or (table_at_32 table 4) [] else []

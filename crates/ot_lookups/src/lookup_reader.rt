@@ -15,8 +15,8 @@ use crate::lookup_props::LookupProps;
 use crate::reading::{count_at, coverage_numbers, has_next, quick_classes, summaries_of_all};
 use crate::seconds::seconds_of;
 use crate::subtable::{
-    Form, MAX_CONTEXT_LENGTH, NextAsked, Subtable, behind_extension, behind_list, positioning_form,
-    substitution_form, table_or_empty,
+    Form, MAX_CONTEXT_LENGTH, NextAsked, Subtable, behind_extension, behind_list, input_classes_at,
+    positioning_form, substitution_form, table_or_empty,
 };
 use crate::subtable_limit::subtable_count;
 use font_tables::bytes::{part, table_at_16, tail, u16_at};
@@ -342,11 +342,9 @@ impl<'a> LookupReader<'a> {
 
     /// The classes of the input.
     fn input_classes(&mut self, form: Form, table: &'a [u8]) -> ClassDefinition<'a> {
-        match form {
-            Form::Classes => self.classes(table_or_empty(table, 4)),
-            Form::ChainedClasses => self.classes(table_or_empty(table, 6)),
-            Form::PairClasses => self.classes(table_or_empty(table, 8)),
-            _ => ClassDefinition::new(&[]),
+        match input_classes_at(form) {
+            Some(at) => self.classes(table_or_empty(table, at)),
+            None => ClassDefinition::new(&[]),
         }
     }
 

@@ -4,7 +4,8 @@ ghost use Rattle.std.specs.Prelude.{ℕ, ◌≡◌, ◌+◌, ◌-◌, ◌*◌, �
 ghost use Rattle.font_tables.specs.Bytes.{number_16, table_at_16};
 ghost use Rattle.glyph_digests.specs.Digest.{HasAll};
 ghost use Rattle.glyph_digests.specs.FirstGlyphs.{may_have_first};
-ghost use Rattle.ot_lookups.specs.Forms.{context_form, is_chained_form, is_chained_type, is_covered_form, positioning_form, substitution_form};
+ghost use Rattle.ot_lookups.specs.Forms.{context_form, input_classes_at, is_chained_form, is_chained_type, is_covered_form, positioning_form, substitution_form};
+ghost use Rattle.ot_lookups.specs.LookupTables.{extended_kind, extended_table};
 ghost use Rattle.ot_lookups.specs.Seconds.{AreSeconds};
 ghost use Rattle.glyph_digests.specs.Covered.{covered_index};
 
@@ -167,6 +168,18 @@ fn context_form(format: u16, is_chained: bool) -> Form
     }
 }
 
+/// Where a subtable of a form has the offset of the classes of its input; `None` where these have none.
+pub(crate) fn input_classes_at(form: Form) -> Option<usize>
+    ensures { result ≡ input_classes_at form }
+{
+    match form {
+        Form::Classes => Some(4),
+        Form::ChainedClasses => Some(6),
+        Form::PairClasses => Some(8),
+        _ => None,
+    }
+}
+
 /// Where the list of offsets of coverages at a place ends, the number of them standing there.
 pub fn behind_list(table: &[u8], at: usize) -> usize
     ensures { result ≡ min (at + (2 + 2 * unwrap_or (number_16 table.now at) 0)) (2 ^ 64 - 1) }
@@ -187,7 +200,10 @@ pub fn table_or_empty(table: &[u8], at: usize) -> &[u8]
 }
 
 /// The kind and the subtable after an extension.
-pub(crate) fn behind_extension(table: &[u8]) -> (u16, &[u8]) {
+pub(crate) fn behind_extension(table: &[u8]) -> (u16, &[u8])
+    ensures kind { result.0 ≡ extended_kind table.now }
+    ensures table { result.1.now ≡ extended_table table.now }
+{
     match u16_at(table, 0) {
         Some(1) => (
             u16_at(table, 2).unwrap_or(0),

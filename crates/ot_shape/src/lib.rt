@@ -1,6 +1,7 @@
 //! The shaping of texts by a font.
 #![tactic(auto)]
 
+mod ending;
 mod shaping;
 mod verified;
 mod with_plans;

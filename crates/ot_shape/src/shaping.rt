@@ -5,6 +5,10 @@ ghost use Rattle.rb_common.specs.Direction.{is_forward};
 ghost use Rattle.shaping_buffer.specs.Limits.{enter};
 ghost use Rattle.shaping_buffer.specs.Properties.{guessed};
 ghost use Rattle.shaping_buffer.specs.State.{HasPositions};
+ghost use Rattle.shaping_buffer.specs.State.{State};
+ghost use Rattle.ot_characters.specs.Circle.{InsertsCircle};
+ghost use Rattle.ot_characters.specs.FormedClusters.{with_clusters};
+ghost use Rattle.ot_characters.specs.Properties.{set_properties};
 ghost use Rattle.ot_characters.specs.Turned.{KeepsOrTurns};
 ghost use Rattle.ot_shape.specs.Glyphs.{glyph_of, in_place};
 ghost use Rattle.ot_shape.specs.TooLong.{IsTooLong};
@@ -12,8 +16,8 @@ ghost use Rattle.ot_shape.specs.ShapedClusters.{ShapedClusters};
 ghost use Rattle.shaping_buffer.specs.KeepsClusters.{KeepsClusters};
 ghost use Rattle.shaping_passes.specs.Refusals.{IsRefusal};
 
+use crate::ending::finish_glyphs;
 use crate::verified::shape_verified;
-use aat_substitution::remove_deleted_glyphs;
 use font_face::Face;
 use font_functions::{FontFunctions, OwnFunctions};
 use ot_apply::{set_masks, substitute};
@@ -25,11 +29,8 @@ use ot_gsub::substitute_start;
 use ot_normalization::normalize;
 use ot_plan::{FaceGlyphs, Step, TextPlan, Unwatched, Watch, plan_of_text};
 use ot_positioning::position;
-use ot_positions::{
-    hide_ignorables, mark_given_up, propagate_flags, recategorize_marks, share_flags,
-    show_variation_selectors,
-};
-use script_shapers::{ScriptPlan, ScriptShaper};
+use ot_positions::recategorize_marks;
+use script_shapers::ScriptShaper;
 use shaping_buffer::{
     BufferFlags, Direction, Feature, Flags, GlyphBuffer, UnicodeBuffer, hb_buffer_t,
     hb_glyph_info_t,
@@ -334,77 +335,6 @@ fn mask_characters(buffer: &mut hb_buffer_t, plan: &TextPlan, features: &[Featur
     }
 }
 
-/// The last steps: what is not to be seen is hidden, marks are stretched, and the glyphs of a cluster have the same
-/// flags. `Ok(false)` where a call was refused for length.
-#[tactic(auto, using(shaping_buffer::proofs::ClosedKeepsLemmas::kept))]
-fn finish_glyphs<F: FontFunctions>(
-    buffer: &mut hb_buffer_t,
-    face: &Face,
-    font: &F,
-    plan: &TextPlan,
-) -> Result<bool, AllocError>
-    requires closed { buffer.old.have_output ≡ false }
-    requires placed { IsSome buffer.old.positions }
-    ensures closed { IfOk result (λ done. done ≡ true → buffer.new.have_output ≡ false) }
-    ensures placed { IfOk result (λ done. done ≡ true → IsSome buffer.new.positions) }
-    ensures refusal { IsRefusal false result buffer.new }
-    ensures keeps { KeepsClusters buffer.old buffer.new }
-{
-    hide_glyphs(buffer, font, plan);
-    if !stretch_marks(buffer, face, font, &plan.script)? {
-        return Ok(false);
-    }
-    mark_given_up(buffer);
-    propagate_flags(buffer);
-    Ok(true)
-}
-
-/// Takes out glyphs that were deleted, and hides what is not to be seen.
-#[tactic(auto, using(shaping_buffer::proofs::ClosedKeepsLemmas::kept))]
-fn hide_glyphs<F: FontFunctions>(buffer: &mut hb_buffer_t, font: &F, plan: &TextPlan)
-    requires closed { buffer.old.have_output ≡ false }
-    requires placed { IsSome buffer.old.positions }
-    ensures closed { buffer.new.have_output ≡ false }
-    ensures placed { IsSome buffer.new.positions }
-    ensures keeps { KeepsClusters buffer.old buffer.new }
-{
-    remove_deleted(buffer, plan);
-    show_variation_selectors(buffer);
-    hide_ignorables(buffer, font);
-}
-
-/// Stretches the marks of a text that is shaped, as the shaper of its script says. `Ok(false)` where a call was refused for length.
-#[tactic(auto, using(shaping_buffer::proofs::ClosedKeepsLemmas::kept))]
-fn stretch_marks<F: FontFunctions>(
-    buffer: &mut hb_buffer_t,
-    face: &Face,
-    font: &F,
-    script: &ScriptPlan,
-) -> Result<bool, AllocError>
-    requires closed { buffer.old.have_output ≡ false }
-    requires placed { IsSome buffer.old.positions }
-    ensures closed { IfOk result (λ done. done ≡ true → buffer.new.have_output ≡ false) }
-    ensures placed { IfOk result (λ done. done ≡ true → IsSome buffer.new.positions) }
-    ensures refusal { IsRefusal false result buffer.new }
-    ensures keeps { KeepsClusters buffer.old buffer.new }
-{
-    script.postprocess_glyphs(face.alloc, buffer, &FaceGlyphs { face, font })
-}
-
-/// Takes out glyphs that were deleted by Apple's table `morx`, unless `GPOS` positioned the others without them.
-fn remove_deleted(buffer: &mut hb_buffer_t, plan: &TextPlan)
-    requires closed { buffer.old.have_output ≡ false }
-    requires placed { IsSome buffer.old.positions }
-    ensures closed { buffer.new.have_output ≡ false }
-    ensures placed { IsSome buffer.new.positions }
-    ensures keeps { KeepsClusters buffer.old buffer.new }
-{
-    if plan.chain_flags.is_some() && !plan.shape.apply_gpos {
-        share_flags(buffer);
-        remove_deleted_glyphs(buffer);
-    }
-}
-
 /// Sets the properties of the characters, and makes clusters of them. `Ok(false)` where a call was refused for length.
 #[tactic(auto, using(shaping_buffer::proofs::ClosedKeepsLemmas::kept))]
 fn begin_characters<F: FontFunctions>(
@@ -418,13 +348,30 @@ fn begin_characters<F: FontFunctions>(
     ensures keeps { KeepsClusters buffer.old buffer.new }
 {
     buffer.reset_masks(plan.shape.layout.global_mask);
+    if !form_characters(buffer, font)? {
+        return Ok(false);
+    }
+    keep_numbers(buffer);
+    keep_joining(buffer, plan.script.shaper);
+    Ok(true)
+}
+
+/// Sets the properties of the characters, puts a dotted circle before a text that wants one, and makes clusters. `Ok(false)` where a call
+/// was refused for length.
+#[tactic(auto, using(shaping_buffer::proofs::ClosedKeepsLemmas::kept))]
+fn form_characters<F: FontFunctions>(buffer: &mut hb_buffer_t, font: &F) -> Result<bool, AllocError>
+    requires { buffer.old.have_output ≡ false }
+    ensures forms { IfOk result (λ done. (circled : State)
+        × (InsertsCircle (F.has font.now) (set_properties buffer.old) circled done × (done ≡ true → buffer.new ≡ with_clusters circled))) }
+    ensures closed { IfOk result (λ done. done ≡ true → buffer.new.have_output ≡ false) }
+    ensures refusal { IsRefusal false result buffer.new }
+    ensures keeps { KeepsClusters buffer.old buffer.new }
+{
     set_properties(buffer);
     if !insert_dotted_circle(buffer, font)? {
         return Ok(false);
     }
     form_clusters(buffer);
-    keep_numbers(buffer);
-    keep_joining(buffer, plan.script.shaper);
     Ok(true)
 }
 

@@ -2,6 +2,7 @@
 
 //! The shaping of texts by a font.
 
+mod ending;
 mod shaping;
 mod verified;
 mod with_plans;

@@ -20,8 +20,8 @@ use crate::ot_lookups::reading::{
 };
 use crate::ot_lookups::seconds::seconds_of;
 use crate::ot_lookups::subtable::{
-    Form, MAX_CONTEXT_LENGTH, NextAsked, Subtable, behind_extension, behind_list, positioning_form,
-    substitution_form, table_or_empty,
+    Form, MAX_CONTEXT_LENGTH, NextAsked, Subtable, behind_extension, behind_list, input_classes_at,
+    positioning_form, substitution_form, table_or_empty,
 };
 use crate::ot_lookups::subtable_limit::subtable_count;
 
@@ -338,11 +338,9 @@ impl<'a> LookupReader<'a> {
 
     /// The classes of the input.
     fn input_classes(&mut self, form: Form, table: &'a [u8]) -> ClassDefinition<'a> {
-        match form {
-            Form::Classes => self.classes(table_or_empty(table, 4)),
-            Form::ChainedClasses => self.classes(table_or_empty(table, 6)),
-            Form::PairClasses => self.classes(table_or_empty(table, 8)),
-            _ => ClassDefinition::new(&[]),
+        match input_classes_at(form) {
+            Some(at) => self.classes(table_or_empty(table, at)),
+            None => ClassDefinition::new(&[]),
         }
     }
 

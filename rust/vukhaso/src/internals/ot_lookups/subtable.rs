@@ -184,6 +184,16 @@ fn context_form(format: u16, is_chained: bool) -> Form {
     }
 }
 
+/// Where a subtable of a form has the offset of the classes of its input; `None` where these have none.
+pub(crate) fn input_classes_at(form: Form) -> Option<usize> {
+    match form {
+        Form::Classes => Some(4),
+        Form::ChainedClasses => Some(6),
+        Form::PairClasses => Some(8),
+        _ => None,
+    }
+}
+
 /// Where the list of offsets of coverages at a place ends, the number of them standing there.
 ///
 /// # Proved

@@ -2,7 +2,6 @@
 
 //! The shaping of a text by a font: HarfBuzz's steps, one after the other.
 
-use crate::aat_substitution::remove_deleted_glyphs;
 use crate::buffer::{
     BufferFlags, Direction, Feature, GlyphBuffer, UnicodeBuffer, hb_buffer_t, hb_glyph_info_t,
 };
@@ -18,12 +17,10 @@ use crate::ot_gsub::substitute_start;
 use crate::ot_normalization::normalize;
 use crate::ot_plan::{FaceGlyphs, Step, TextPlan, Unwatched, Watch, plan_of_text};
 use crate::ot_positioning::position;
-use crate::ot_positions::{
-    hide_ignorables, mark_given_up, propagate_flags, recategorize_marks, share_flags,
-    show_variation_selectors,
-};
+use crate::ot_positions::recategorize_marks;
+use crate::ot_shape::ending::finish_glyphs;
 use crate::ot_shape::verified::shape_verified;
-use crate::script_shapers::{ScriptPlan, ScriptShaper};
+use crate::script_shapers::ScriptShaper;
 use crate::verification::ShapeError;
 
 /// Shapes a text by a font: finds a glyph for each of its characters, and says where each is drawn. A
@@ -357,85 +354,6 @@ fn mask_characters(buffer: &mut hb_buffer_t, plan: &TextPlan, features: &[Featur
     }
 }
 
-/// The last steps: what is not to be seen is hidden, marks are stretched, and the glyphs of a cluster
-/// have the same flags.
-///
-/// # Requires
-///
-/// - `closed: buffer.old.have_output ≡ false`
-/// - `placed: IsSome buffer.old.positions`
-///
-/// # Errors
-///
-/// `Ok(false)` where a call was refused for length.
-fn finish_glyphs<F: FontFunctions>(
-    buffer: &mut hb_buffer_t,
-    face: &Face,
-    font: &F,
-    plan: &TextPlan,
-) -> Result<bool, AllocError> {
-    debug_assert!(!buffer.have_output());
-    debug_assert!(buffer.have_positions());
-    hide_glyphs(buffer, font, plan);
-    if !stretch_marks(buffer, face, font, &plan.script)? {
-        return Ok(false);
-    }
-    mark_given_up(buffer);
-    propagate_flags(buffer);
-    Ok(true)
-}
-
-/// Takes out glyphs that were deleted, and hides what is not to be seen.
-///
-/// # Requires
-///
-/// - `closed: buffer.old.have_output ≡ false`
-/// - `placed: IsSome buffer.old.positions`
-fn hide_glyphs<F: FontFunctions>(buffer: &mut hb_buffer_t, font: &F, plan: &TextPlan) {
-    debug_assert!(!buffer.have_output());
-    debug_assert!(buffer.have_positions());
-    remove_deleted(buffer, plan);
-    show_variation_selectors(buffer);
-    hide_ignorables(buffer, font);
-}
-
-/// Stretches the marks of a text that is shaped, as the shaper of its script says.
-///
-/// # Requires
-///
-/// - `closed: buffer.old.have_output ≡ false`
-/// - `placed: IsSome buffer.old.positions`
-///
-/// # Errors
-///
-/// `Ok(false)` where a call was refused for length.
-fn stretch_marks<F: FontFunctions>(
-    buffer: &mut hb_buffer_t,
-    face: &Face,
-    font: &F,
-    script: &ScriptPlan,
-) -> Result<bool, AllocError> {
-    debug_assert!(!buffer.have_output());
-    debug_assert!(buffer.have_positions());
-    script.postprocess_glyphs(buffer, &FaceGlyphs { face, font })
-}
-
-/// Takes out glyphs that were deleted by Apple's table `morx`, unless `GPOS` positioned the others
-/// without them.
-///
-/// # Requires
-///
-/// - `closed: buffer.old.have_output ≡ false`
-/// - `placed: IsSome buffer.old.positions`
-fn remove_deleted(buffer: &mut hb_buffer_t, plan: &TextPlan) {
-    debug_assert!(!buffer.have_output());
-    debug_assert!(buffer.have_positions());
-    if plan.chain_flags.is_some() && !plan.shape.apply_gpos {
-        share_flags(buffer);
-        remove_deleted_glyphs(buffer);
-    }
-}
-
 /// Sets the properties of the characters, and makes clusters of them.
 ///
 /// # Requires
@@ -452,13 +370,34 @@ fn begin_characters<F: FontFunctions>(
 ) -> Result<bool, AllocError> {
     debug_assert!(!buffer.have_output());
     buffer.reset_masks(plan.shape.layout.global_mask);
+    if !form_characters(buffer, font)? {
+        return Ok(false);
+    }
+    keep_numbers(buffer);
+    keep_joining(buffer, plan.script.shaper);
+    Ok(true)
+}
+
+/// Sets the properties of the characters, puts a dotted circle before a text that wants one, and makes
+/// clusters.
+///
+/// # Requires
+///
+/// - `buffer.old.have_output ≡ false`
+///
+/// # Errors
+///
+/// `Ok(false)` where a call was refused for length.
+fn form_characters<F: FontFunctions>(
+    buffer: &mut hb_buffer_t,
+    font: &F,
+) -> Result<bool, AllocError> {
+    debug_assert!(!buffer.have_output());
     set_properties(buffer);
     if !insert_dotted_circle(buffer, font)? {
         return Ok(false);
     }
     form_clusters(buffer);
-    keep_numbers(buffer);
-    keep_joining(buffer, plan.script.shaper);
     Ok(true)
 }
 
