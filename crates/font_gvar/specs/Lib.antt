@@ -1,7 +1,6 @@
 pub mod Components
+pub mod Glyf
 pub mod Glyphs
-pub mod PackedDeltas
-pub mod PackedPoints
 pub mod Phantoms
 pub mod Points
 pub mod TupleScalar

@@ -4,8 +4,8 @@ ghost use Rattle.std.specs.Prelude.{◌≡◌, ◌≤◌, not, ◌&&◌};
 ghost use Rattle.font_gvar.specs.Components.{arguments_size, component_size, glyph_size, has_flag, matrix_size};
 
 use crate::flags::has_flag;
+use crate::glyf::HEADER_SIZE;
 use crate::points::Point;
-use crate::sources::HEADER_SIZE;
 use font_tables::bytes::{i16_at, tail, u8_at, u16_at, u24_at};
 use font_variations::rounding::float;
 use rb_common::GlyphId;
@@ -33,7 +33,7 @@ pub(crate) struct Component {
 }
 
 /// How points are turned and stretched.
-#[derive(Clone, Copy, PartialEq)]
+#[derive(Clone, Copy)]
 pub(crate) struct Matrix {
     /// How far to the right a unit to the right goes.
     pub xx: f32,
@@ -82,6 +82,16 @@ impl Component {
 }
 
 impl Matrix {
+    /// A matrix that does not turn, but stretches so much to the right and so much upwards.
+    fn stretching(xx: f32, yy: f32) -> Self {
+        Matrix {
+            xx,
+            yx: 0.0,
+            xy: 0.0,
+            yy,
+        }
+    }
+
     /// Where it puts a point.
     pub(crate) fn put(&self, point: Point) -> Point {
         Point {
@@ -245,19 +255,9 @@ fn anchors(arguments: &[u8], flags: u16) -> (u32, u32) {
 fn matrix_at(numbers: &[u8], flags: u16) -> Matrix {
     if has_flag(flags, HAS_SCALE) {
         let scale = fraction(numbers, 0);
-        Matrix {
-            xx: scale,
-            yx: 0.0,
-            xy: 0.0,
-            yy: scale,
-        }
+        Matrix::stretching(scale, scale)
     } else if has_flag(flags, HAS_TWO_SCALES) {
-        Matrix {
-            xx: fraction(numbers, 0),
-            yx: 0.0,
-            xy: 0.0,
-            yy: fraction(numbers, 2),
-        }
+        Matrix::stretching(fraction(numbers, 0), fraction(numbers, 2))
     } else if has_flag(flags, HAS_MATRIX) {
         Matrix {
             xx: fraction(numbers, 0),
@@ -266,12 +266,7 @@ fn matrix_at(numbers: &[u8], flags: u16) -> Matrix {
             yy: fraction(numbers, 6),
         }
     } else {
-        Matrix {
-            xx: 1.0,
-            yx: 0.0,
-            xy: 0.0,
-            yy: 1.0,
-        }
+        Matrix::stretching(1.0, 1.0)
     }
 }
 

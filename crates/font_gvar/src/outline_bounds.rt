@@ -1,10 +1,10 @@
 //! The bounds of glyphs at a place in the variations of a font.
 
-use crate::outlines::{PointSource, last_phantoms};
+use crate::outlines::last_phantoms;
 use crate::phantoms::{DEEPEST_GLYPH, MOST_GLYPHS, Phantoms};
 use crate::points::{OutlinePoint, Point};
-use crate::sources::GlyphSources;
-use font_variations::rounding::{float, rounded};
+use crate::sources::{GlyphSources, PointSource};
+use font_variations::rounding::{float, greater, lesser, rounded};
 use rb_common::GlyphId;
 use rb_glyph::GlyphExtents;
 use std::alloc::{AllocError, Global};
@@ -114,14 +114,4 @@ impl PointBounds {
             height: rounded(self.min.y - float(y_bearing)),
         }
     }
-}
-
-/// The lesser of two floats.
-fn lesser(one: f32, other: f32) -> f32 {
-    if one <= other { one } else { other }
-}
-
-/// The greater of two floats.
-fn greater(one: f32, other: f32) -> f32 {
-    if one >= other { one } else { other }
 }

@@ -3,27 +3,16 @@
 ghost use Rattle.std.specs.Prelude.{◌≤◌};
 
 use crate::components::{Component, Components};
+use crate::glyf::{OutlineKind, outline_kind};
 use crate::phantoms::Phantoms;
 use crate::points::{OutlinePoint, Point};
 use crate::simple_outlines::push_points;
-use crate::sources::{GlyphSources, OutlineKind, outline_kind};
-use crate::varied_points::vary_points;
+use crate::sources::PointSource;
 use rb_common::GlyphId;
-use std::alloc::{AllocError, Global};
+use std::alloc::AllocError;
 
 /// How many points a glyph may have, as HarfBuzz allows.
 const MOST_POINTS: usize = 200_000;
-
-/// What the points of glyphs are read from.
-#[derive(Clone, Copy)]
-pub(crate) struct PointSource<'a> {
-    /// What gives the memory.
-    pub alloc: Global,
-    /// The tables.
-    pub sources: &'a GlyphSources<'a>,
-    /// The place in the variations.
-    pub coordinates: &'a [i32],
-}
 
 impl PointSource<'_> {
     /// Adds all points of a glyph, and behind them its phantom points. `Ok(false)` where the font has no such glyph, or its outline is
@@ -69,13 +58,7 @@ impl PointSource<'_> {
             return Ok(false);
         }
         push_phantoms(points, &self.sources.phantoms(glyph, outline))?;
-        vary_points(
-            self.alloc,
-            self.sources,
-            glyph,
-            self.coordinates,
-            points.slice_mut(start.min(points.len())..),
-        )?;
+        self.vary_points(glyph, points.slice_mut(start.min(points.len())..))?;
         Ok(true)
     }
 
@@ -93,13 +76,7 @@ impl PointSource<'_> {
             })?;
         }
         push_phantoms(&mut offsets, &self.sources.phantoms(glyph, outline))?;
-        vary_points(
-            self.alloc,
-            self.sources,
-            glyph,
-            self.coordinates,
-            offsets.as_mut_slice(),
-        )?;
+        self.vary_points(glyph, offsets.as_mut_slice())?;
         Ok(offsets)
     }
 
@@ -116,9 +93,24 @@ impl PointSource<'_> {
         ensures { steps.new ≤ steps.old }
     {
         let offsets = self.offsets_of(glyph, outline)?;
-        let mut phantoms = last_phantoms(offsets.as_slice());
+        self.push_components(outline, offsets.as_slice(), depth, steps, points)
+    }
+
+    /// The same, where it is known how far each component is moved, and behind that where the glyph's phantom points are.
+    #[cycle(push)]
+    fn push_components(
+        self,
+        outline: &[u8],
+        offsets: &[OutlinePoint],
+        depth: u32,
+        steps: &mut u32,
+        points: &mut Vec<OutlinePoint>,
+    ) -> Result<bool, AllocError>
+        ensures { steps.new ≤ steps.old }
+    {
+        let mut phantoms = last_phantoms(offsets);
         let mut components = Components::new(outline);
-        for place in 0..offsets.len() {
+        for offset in offsets {
             let Some(component) = components.next() else {
                 break;
             };
@@ -132,10 +124,7 @@ impl PointSource<'_> {
             if component.gives_metrics() {
                 phantoms = last_phantoms(points.as_slice());
             }
-            let offset = offsets
-                .get(place)
-                .map_or(component.offset, |offset| offset.at);
-            place_component(points.as_mut_slice(), start, &component, offset);
+            place_component(points.as_mut_slice(), start, &component, offset.at);
             points.truncate(points.len().saturating_sub(4));
             if points.len() > MOST_POINTS {
                 return Ok(false);
@@ -148,11 +137,8 @@ impl PointSource<'_> {
 
 /// Adds phantom points.
 fn push_phantoms(points: &mut Vec<OutlinePoint>, phantoms: &Phantoms) -> Result<(), AllocError> {
-    for number in 0..4 {
-        points.push(OutlinePoint {
-            at: phantoms.point(number),
-            is_end: false,
-        })?;
+    for at in [phantoms.left, phantoms.right, phantoms.top, phantoms.bottom] {
+        points.push(OutlinePoint { at, is_end: false })?;
     }
     Ok(())
 }

@@ -6,16 +6,17 @@ ghost use Rattle.font_gvar.specs.Phantoms.{phantoms};
 ghost use Rattle.font_gvar.specs.Glyphs.{data_of};
 
 use crate::components::Components;
+use crate::glyf::{OutlineKind, outline_kind};
 use crate::points::Point;
 use crate::simple_outlines::point_count;
-use crate::sources::{GlyphSources, OutlineKind, outline_kind};
+use crate::sources::GlyphSources;
 use crate::tuple_deltas::TupleDeltas;
 use crate::tuple_scalar::tuple_scalar;
 use crate::tuples::{Tuple, Tuples};
 use rb_common::GlyphId;
 
 /// The phantom points of a glyph.
-#[derive(Clone, Copy, PartialEq, Default)]
+#[derive(Clone, Copy, Default)]
 pub struct Phantoms {
     /// The origin in horizontal lines.
     pub left: Point,
@@ -28,16 +29,6 @@ pub struct Phantoms {
 }
 
 impl Phantoms {
-    /// The point with this number, from 0 on.
-    pub(crate) fn point(&self, number: u32) -> Point {
-        match number {
-            0 => self.left,
-            1 => self.right,
-            2 => self.top,
-            _ => self.bottom,
-        }
-    }
-
     /// Moves the point with this number, from 0 on; there are four.
     fn move_point(&mut self, number: u32, by: Point) {
         match number {
@@ -95,7 +86,7 @@ fn phantoms_of(
     *steps -= 1;
     let outline = sources.outline(glyph)?;
     let own = own_phantoms(sources, glyph, outline, coordinates)?;
-    if outline_kind(outline) != OutlineKind::Composite {
+    if !matches!(outline_kind(outline), OutlineKind::Composite) {
         return Some(own);
     }
     let mut phantoms = own;

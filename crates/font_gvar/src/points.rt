@@ -46,7 +46,7 @@ impl Point {
 }
 
 /// A point of an outline.
-#[derive(Clone, Copy, Default)]
+#[derive(Clone, Copy)]
 pub(crate) struct OutlinePoint {
     /// Where it is.
     pub at: Point,

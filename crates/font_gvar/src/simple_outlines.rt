@@ -4,8 +4,8 @@
 ghost use Rattle.std.specs.Prelude.{◌≡◌};
 ghost use Rattle.font_gvar.specs.Glyphs.{point_count};
 
+use crate::glyf::HEADER_SIZE;
 use crate::points::{OutlinePoint, Point};
-use crate::sources::HEADER_SIZE;
 use font_tables::bytes::{i16_at, tail, u8_at, u16_at};
 use font_variations::rounding::float;
 use std::alloc::AllocError;

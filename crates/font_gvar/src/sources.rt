@@ -3,15 +3,15 @@
 ghost use Rattle.std.specs.Prelude.{◌≡◌, ◌<◌, ◌≤ℤ◌, IsSome, pos, negsuc};
 ghost use Rattle.font_gvar.specs.Phantoms.{across, left_edge, top_edge, upwards};
 
+use crate::glyf::{GlyfTables, HEADER_SIZE, outline};
 use crate::gvar::GlyphVariations;
 use crate::phantoms::Phantoms;
 use crate::points::Point;
-use font_outlines::GlyfTables;
-use font_outlines::glyf::outline;
-use font_tables::bytes::{i16_at, u16_at};
+use font_tables::bytes::i16_at;
 use font_tables::metrics::Metrics;
 use font_variations::rounding::float;
 use rb_common::GlyphId;
+use std::alloc::Global;
 
 /// The tables of a font's outlines, with those of advances and side bearings.
 #[derive(Clone, Copy)]
@@ -62,6 +62,17 @@ impl<'a> GlyphSources<'a> {
     }
 }
 
+/// What the points of glyphs are read from.
+#[derive(Clone, Copy)]
+pub(crate) struct PointSource<'a> {
+    /// What gives the memory.
+    pub alloc: Global,
+    /// The tables.
+    pub sources: &'a GlyphSources<'a>,
+    /// The place in the variations.
+    pub coordinates: &'a [i32],
+}
+
 /// Where a glyph's origin lies in horizontal lines, in font units.
 fn left_edge(metrics: &Metrics<'_>, glyph: GlyphId, outline: &[u8]) -> i32
     ensures is { result ≡ left_edge metrics.now glyph.0 outline.now }
@@ -86,7 +97,7 @@ fn top_edge(metrics: &Metrics<'_>, glyph: GlyphId, outline: &[u8]) -> i32
 }
 
 /// A point on the line of the origin.
-#[tactic(auto, using(crate::proofs::ScalarLemmas::literals))]
+#[tactic(auto, using(font_variations::proofs::FloatLemmas::literals))]
 fn across(x: i32) -> Point
     ensures { result ≡ across x }
 {
@@ -97,35 +108,12 @@ fn across(x: i32) -> Point
 }
 
 /// A point above or below the origin.
-#[tactic(auto, using(crate::proofs::ScalarLemmas::literals))]
+#[tactic(auto, using(font_variations::proofs::FloatLemmas::literals))]
 fn upwards(y: i32) -> Point
     ensures { result ≡ upwards y }
 {
     Point {
         x: 0.0,
         y: float(y),
-    }
-}
-
-/// How many bytes the header of an outline has.
-pub(crate) const HEADER_SIZE: usize = 10;
-
-/// What an outline is.
-#[derive(Clone, Copy, PartialEq, Eq)]
-pub(crate) enum OutlineKind {
-    /// It has no points.
-    Empty,
-    /// It has so many contours.
-    Simple(u16),
-    /// It is put together of other glyphs.
-    Composite,
-}
-
-/// What an outline is, by its number of contours.
-pub(crate) fn outline_kind(outline: &[u8]) -> OutlineKind {
-    match u16_at(outline, 0).unwrap_or(0) {
-        0 => OutlineKind::Empty,
-        count if count < 0x8000 => OutlineKind::Simple(count),
-        _ => OutlineKind::Composite,
     }
 }

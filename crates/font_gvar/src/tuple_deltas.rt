@@ -1,9 +1,9 @@
 //! The points of a tuple, and their deltas.
 
-use crate::packed_deltas::PackedDeltas;
-use crate::packed_points::PackedPoints;
 use crate::points::Point;
 use crate::tuples::Tuple;
+use font_variations::packed_deltas::PackedDeltas;
+use font_variations::packed_points::PackedPoints;
 use font_variations::rounding::float;
 
 /// The points of a tuple, each with its delta, which are read one after the other.

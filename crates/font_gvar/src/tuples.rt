@@ -6,8 +6,8 @@ ghost use Rattle.font_gvar.specs.Tuples.{own_size};
 
 use crate::flags::has_flag;
 use crate::gvar::GlyphVariations;
-use crate::packed_points::PackedPoints;
 use font_tables::bytes::{part, tail, u16_at};
+use font_variations::packed_points::PackedPoints;
 
 /// The tuples of a glyph, which are read one after the other.
 #[derive(Clone, Copy)]

@@ -2,7 +2,7 @@
 
 use crate::inference::infer_deltas;
 use crate::points::{Delta, OutlinePoint};
-use crate::sources::GlyphSources;
+use crate::sources::PointSource;
 use crate::tuple_deltas::TupleDeltas;
 use crate::tuple_scalar::tuple_scalar;
 use crate::tuples::{Tuple, Tuples};
@@ -21,45 +21,47 @@ struct VariedPoints<'p> {
     is_pending: bool,
 }
 
-/// Moves points of a glyph, its phantom points among them, by the variations of the glyph at these coordinates. Where a tuple of
-/// these is broken, it and those behind it are passed over.
-pub(crate) fn vary_points(
-    alloc: Global,
-    sources: &GlyphSources<'_>,
-    glyph: GlyphId,
-    coordinates: &[i32],
-    points: &mut [OutlinePoint],
-) -> Result<(), AllocError> {
-    if coordinates.is_empty() {
-        return Ok(());
-    }
-    let data = sources.variations.data_of(glyph);
-    let Some(mut tuples) = Tuples::new(&sources.variations, data) else {
-        return Ok(());
-    };
-    let mut varied = VariedPoints::new(alloc, points)?;
-    for _ in data {
-        let Some(tuple) = tuples.next() else {
-            break;
-        };
-        let scalar = tuple_scalar(&sources.variations, &tuple, coordinates);
-        if scalar != 0.0 && varied.add(&tuple, scalar).is_none() {
+impl PointSource<'_> {
+    /// Moves points of a glyph, its phantom points among them, by the variations of the glyph. Where a tuple of these is broken, it and
+    /// those behind it are passed over.
+    pub(crate) fn vary_points(
+        self,
+        glyph: GlyphId,
+        points: &mut [OutlinePoint],
+    ) -> Result<(), AllocError> {
+        if self.coordinates.is_empty() {
             return Ok(());
         }
+        let data = self.sources.variations.data_of(glyph);
+        let Some(tuples) = Tuples::new(&self.sources.variations, data) else {
+            return Ok(());
+        };
+        let mut varied = VariedPoints::new(self.alloc, points)?;
+        self.move_by(tuples, data, &mut varied);
+        Ok(())
     }
-    varied.settle();
-    Ok(())
+
+    /// Moves points by the tuples in these bytes.
+    fn move_by(self, mut tuples: Tuples<'_>, data: &[u8], varied: &mut VariedPoints<'_>) {
+        for _ in data {
+            let Some(tuple) = tuples.next() else {
+                break;
+            };
+            let scalar = tuple_scalar(&self.sources.variations, &tuple, self.coordinates);
+            if scalar != 0.0 && varied.add(&tuple, scalar).is_none() {
+                return;
+            }
+        }
+        varied.settle();
+    }
 }
 
 impl<'p> VariedPoints<'p> {
     /// Points that are not moved yet.
     fn new(alloc: Global, points: &'p mut [OutlinePoint]) -> Result<Self, AllocError> {
-        let mut original = Vec::new(alloc);
+        let original = Vec::from_slice(alloc, points)?;
         let mut deltas = Vec::new(alloc);
-        for point in points.iter() {
-            original.push(*point)?;
-            deltas.push(Delta::default())?;
-        }
+        deltas.resize(points.len(), Delta::default())?;
         Ok(VariedPoints {
             points,
             original,

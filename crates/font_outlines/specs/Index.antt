@@ -1,14 +1,9 @@
 -- The items of an INDEX (The Compact Font Format Specification, "INDEX Data").
 use Rattle.std.specs.Prelude.{ℕ, List, Option, Some, None, ◌==◌, ◌+◌, ◌*◌, nat_lt, if◌then◌else◌}
 use Rattle.std.specs.Prelude.{option_map, option_and_then, unwrap_or}
-use Rattle.font_tables.specs.Bytes.{byte_at, number_16, number_24, number_32}
-use Rattle.font_outlines.specs.Glyf.{between}
-
--- a number of one to four bytes, its high byte first
-unfoldable pub number_of_size : ℕ → List ℕ → ℕ → Option ℕ
-number_of_size size bs i =
-    if size == 1 then byte_at bs i else if size == 2 then number_16 bs i
-    else if size == 3 then number_24 bs i else if size == 4 then number_32 bs i else None
+use Rattle.font_tables.specs.Bytes.{byte_at, number_16}
+use Rattle.font_variations.specs.IndexMap.{number_of_size}
+use Rattle.font_gvar.specs.Glyf.{between}
 
 -- how many items there are
 abbrev pub index_count : List ℕ → ℕ

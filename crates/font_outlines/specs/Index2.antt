@@ -2,8 +2,8 @@
 use Rattle.std.specs.Prelude.{ℕ, ℤ, pos, negsuc, ◌+ℤ◌, List, Option, None, ◌+◌, ◌*◌, nat_lt, if◌then◌else◌}
 use Rattle.std.specs.Prelude.{option_map, option_and_then, unwrap_or}
 use Rattle.font_tables.specs.Bytes.{byte_at, number_32}
-use Rattle.font_outlines.specs.Glyf.{between}
-use Rattle.font_outlines.specs.Index.{number_of_size}
+use Rattle.font_variations.specs.IndexMap.{number_of_size}
+use Rattle.font_gvar.specs.Glyf.{between}
 use Rattle.font_outlines.specs.Subroutines.{bias}
 
 -- how many items there are

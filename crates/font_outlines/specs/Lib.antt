@@ -1,4 +1,3 @@
-pub mod Glyf
 pub mod Index
 pub mod Index2
 pub mod StandardStrings

@@ -2,24 +2,11 @@
 
 ghost use Rattle.std.specs.Prelude.{◌≡◌, ◌+◌};
 ghost use Rattle.std.specs.Option.{option_copied};
-ghost use Rattle.font_outlines.specs.Index.{index_count, index_item, index_offset, index_size, number_of_size, offset_size};
+ghost use Rattle.font_outlines.specs.Index.{index_count, index_item, index_offset, index_size, offset_size};
 
-use crate::glyf::between;
-use font_tables::bytes::{u8_at, u16_at, u24_at, u32_at};
-
-/// A number of one to four bytes at a place, its high byte first; `None` for other sizes, and where its bytes do not lie in the table.
-#[tactic(auto, unfolding(crate::specs::Index::number_of_size))]
-pub fn number_of_size(size: u8, table: &[u8], at: usize) -> Option<u32>
-    ensures { result ≡ number_of_size size table.now at }
-{
-    match size {
-        1 => u8_at(table, at).map(u32::from),
-        2 => u16_at(table, at).map(u32::from),
-        3 => u24_at(table, at),
-        4 => u32_at(table, at),
-        _ => None,
-    }
-}
+use font_gvar::glyf::between;
+use font_tables::bytes::{u8_at, u16_at};
+use font_variations::index_map::number_of_size;
 
 /// How many items an INDEX has; none where the table is empty.
 pub fn index_count(index: &[u8]) -> u16

@@ -5,10 +5,10 @@ ghost use Rattle.std.specs.Prelude.{◌≡◌, ◌+◌, ◌<◌, ◌≤◌, ◌^
 ghost use Rattle.std.specs.Option.{option_copied};
 ghost use Rattle.font_outlines.specs.Index2.{base_2, count_2, item_2, offset_2, offset_size_2, subroutine_2};
 
-use crate::glyf::between;
-use crate::index::number_of_size;
 use crate::subroutines::bias;
+use font_gvar::glyf::between;
 use font_tables::bytes::{u8_at, u32_at};
+use font_variations::index_map::number_of_size;
 
 /// How many items an INDEX has; none where the table is empty.
 pub(crate) fn count_2(index: &[u8]) -> u32

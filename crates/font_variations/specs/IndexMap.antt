@@ -1,5 +1,5 @@
 -- Which delta set is for which number, by a DeltaSetIndexMap table.
-use Rattle.std.specs.Prelude.{ℕ, List, Option, ◌+◌, ◌-◌, ◌*◌, ◌/◌, ◌%◌, ◌^◌, nat_eq, min, unwrap_or, if◌then◌else◌}
+use Rattle.std.specs.Prelude.{ℕ, List, Option, None, ◌+◌, ◌-◌, ◌*◌, ◌/◌, ◌%◌, ◌^◌, nat_eq, min, unwrap_or, if◌then◌else◌}
 use Rattle.font_tables.specs.Bytes.{byte_at, number_16, number_24, number_32, is_number}
 
 -- how many entries a map has; none where it is of another format than 0 and 1
@@ -20,17 +20,18 @@ entry_size table = unwrap_or (byte_at table 1) 0 / 16 % 4 + 1
 abbrev pub row_bits : List ℕ → ℕ
 row_bits table = unwrap_or (byte_at table 1) 0 % 16 + 1
 
--- a number of one to four bytes at a place
-unfoldable pub number_of_bytes : ℕ → List ℕ → ℕ → Option ℕ
-number_of_bytes size table at =
+-- a number of one to four bytes at a place, its high byte first
+unfoldable pub number_of_size : ℕ → List ℕ → ℕ → Option ℕ
+number_of_size size table at =
     if nat_eq size 1 then byte_at table at
     else if nat_eq size 2 then number_16 table at
-    else if nat_eq size 3 then number_24 table at else number_32 table at
+    else if nat_eq size 3 then number_24 table at
+    else if nat_eq size 4 then number_32 table at else None
 
 -- the entry of a number, which is that of the last one for the numbers behind it; 0 outside of the table
 abbrev pub entry : List ℕ → ℕ → ℕ
 entry table number =
-    unwrap_or (number_of_bytes (entry_size table) table (entries_start table + entry_size table * number)) 0
+    unwrap_or (number_of_size (entry_size table) table (entries_start table + entry_size table * number)) 0
 
 -- a number of a table of deltas, in the upper 16 bits, and of a row of it
 abbrev pub parted : ℕ → ℕ → ℕ

@@ -3,9 +3,12 @@ pub mod DeltaSets
 pub mod FeatureVariations
 pub mod IndexMap
 pub mod MetricsVariations
+pub mod PackedDeltas
+pub mod PackedPoints
 pub mod Regions
 pub mod Rounding
 pub mod SegmentMaps
+pub mod Tents
 pub mod UserVariations
 pub mod ValueVariations
 pub mod VariationStore

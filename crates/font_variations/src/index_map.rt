@@ -2,7 +2,7 @@
 //! "DeltaSetIndexMap table").
 
 ghost use Rattle.std.specs.Prelude.{◌≡◌, ◌<◌, ◌≤◌};
-ghost use Rattle.font_variations.specs.IndexMap.{entry, entry_count, number_of_bytes, parted, row_bits};
+ghost use Rattle.font_variations.specs.IndexMap.{entry, entry_count, number_of_size, parted, row_bits};
 
 use font_tables::bytes::{u8_at, u16_at, u24_at, u32_at};
 
@@ -63,19 +63,20 @@ fn entry(table: &[u8], number: u32) -> u32
         6
     };
     let size = u8_at(table, 1).unwrap_or(0) / 16 % 4 + 1;
-    number_of_bytes(size, table, start + usize::from(size) * number as usize).unwrap_or(0)
+    number_of_size(size, table, start + usize::from(size) * number as usize).unwrap_or(0)
 }
 
-/// A number of one to four bytes at a place.
-#[tactic(auto, unfolding(crate::specs::IndexMap::number_of_bytes))]
-fn number_of_bytes(size: u8, table: &[u8], at: usize) -> Option<u32>
-    ensures { result ≡ number_of_bytes size table.now at }
+/// A number of one to four bytes at a place, its high byte first; `None` for other sizes, and where its bytes do not lie in the table.
+#[tactic(auto, unfolding(crate::specs::IndexMap::number_of_size))]
+pub fn number_of_size(size: u8, table: &[u8], at: usize) -> Option<u32>
+    ensures { result ≡ number_of_size size table.now at }
 {
     match size {
         1 => u8_at(table, at).map(u32::from),
         2 => u16_at(table, at).map(u32::from),
         3 => u24_at(table, at),
-        _ => u32_at(table, at),
+        4 => u32_at(table, at),
+        _ => None,
     }
 }
 

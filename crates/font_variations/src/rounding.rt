@@ -1,8 +1,8 @@
-//! Floats of whole numbers, and whole numbers of floats.
+//! Floats of whole numbers, whole numbers of floats, and which of two floats is the lesser.
 
 ghost use Rattle.std.specs.Prelude.{◌≡◌};
 ghost use Rattle.std.specs.Float.Ieee.{of_int, binary32};
-ghost use Rattle.font_variations.specs.Rounding.{rounded};
+ghost use Rattle.font_variations.specs.Rounding.{greater, lesser, rounded};
 
 use std::num::{nearest_i64_to_f32, saturating_f32_to_i32};
 
@@ -23,4 +23,18 @@ pub fn rounded(number: f32) -> i32
     ensures { result ≡ rounded number }
 {
     saturating_f32_to_i32((number + HALF).floor())
+}
+
+/// The lesser of two floats; the second one where they are not ordered.
+pub fn lesser(one: f32, other: f32) -> f32
+    ensures { result ≡ lesser one other }
+{
+    if one <= other { one } else { other }
+}
+
+/// The greater of two floats; the second one where they are not ordered.
+pub fn greater(one: f32, other: f32) -> f32
+    ensures { result ≡ greater one other }
+{
+    if one >= other { one } else { other }
 }

@@ -4,8 +4,8 @@
 
 use crate::common::GlyphId;
 use crate::font_gvar::flags::has_flag;
+use crate::font_gvar::glyf::HEADER_SIZE;
 use crate::font_gvar::points::Point;
-use crate::font_gvar::sources::HEADER_SIZE;
 use crate::font_tables::bytes::{i16_at, tail, u8_at, u16_at, u24_at};
 use crate::font_variations::rounding::float;
 use crate::numbers::ToSigned;
@@ -33,7 +33,7 @@ pub(crate) struct Component {
 }
 
 /// How points are turned and stretched.
-#[derive(Clone, Copy, PartialEq, Debug)]
+#[derive(Clone, Copy, Debug)]
 pub(crate) struct Matrix {
     /// How far to the right a unit to the right goes.
     pub xx: f32,
@@ -78,6 +78,16 @@ impl Component {
 }
 
 impl Matrix {
+    /// A matrix that does not turn, but stretches so much to the right and so much upwards.
+    fn stretching(xx: f32, yy: f32) -> Self {
+        Matrix {
+            xx,
+            yx: 0.0,
+            xy: 0.0,
+            yy,
+        }
+    }
+
     /// Where it puts a point.
     pub(crate) fn put(&self, point: Point) -> Point {
         Point {
@@ -230,19 +240,9 @@ fn anchors(arguments: &[u8], flags: u16) -> (u32, u32) {
 fn matrix_at(numbers: &[u8], flags: u16) -> Matrix {
     if has_flag(flags, HAS_SCALE) {
         let scale = fraction(numbers, 0);
-        Matrix {
-            xx: scale,
-            yx: 0.0,
-            xy: 0.0,
-            yy: scale,
-        }
+        Matrix::stretching(scale, scale)
     } else if has_flag(flags, HAS_TWO_SCALES) {
-        Matrix {
-            xx: fraction(numbers, 0),
-            yx: 0.0,
-            xy: 0.0,
-            yy: fraction(numbers, 2),
-        }
+        Matrix::stretching(fraction(numbers, 0), fraction(numbers, 2))
     } else if has_flag(flags, HAS_MATRIX) {
         Matrix {
             xx: fraction(numbers, 0),
@@ -251,12 +251,7 @@ fn matrix_at(numbers: &[u8], flags: u16) -> Matrix {
             yy: fraction(numbers, 6),
         }
     } else {
-        Matrix {
-            xx: 1.0,
-            yx: 0.0,
-            xy: 0.0,
-            yy: 1.0,
-        }
+        Matrix::stretching(1.0, 1.0)
     }
 }
 

@@ -3,11 +3,11 @@
 //! The bounds of glyphs at a place in the variations of a font.
 
 use crate::common::GlyphId;
-use crate::font_gvar::outlines::{PointSource, last_phantoms};
+use crate::font_gvar::outlines::last_phantoms;
 use crate::font_gvar::phantoms::{DEEPEST_GLYPH, MOST_GLYPHS, Phantoms};
 use crate::font_gvar::points::{OutlinePoint, Point};
-use crate::font_gvar::sources::GlyphSources;
-use crate::font_variations::rounding::{float, rounded};
+use crate::font_gvar::sources::{GlyphSources, PointSource};
+use crate::font_variations::rounding::{float, greater, lesser, rounded};
 use crate::glyph::GlyphExtents;
 use crate::memory::{AllocError, Vec};
 
@@ -124,14 +124,4 @@ impl PointBounds {
             height: rounded(self.min.y - float(y_bearing)),
         }
     }
-}
-
-/// The lesser of two floats.
-fn lesser(one: f32, other: f32) -> f32 {
-    if one <= other { one } else { other }
-}
-
-/// The greater of two floats.
-fn greater(one: f32, other: f32) -> f32 {
-    if one >= other { one } else { other }
 }

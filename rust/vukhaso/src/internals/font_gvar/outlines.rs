@@ -4,24 +4,15 @@
 
 use crate::common::GlyphId;
 use crate::font_gvar::components::{Component, Components};
+use crate::font_gvar::glyf::{OutlineKind, outline_kind};
 use crate::font_gvar::phantoms::Phantoms;
 use crate::font_gvar::points::{OutlinePoint, Point};
 use crate::font_gvar::simple_outlines::push_points;
-use crate::font_gvar::sources::{GlyphSources, OutlineKind, outline_kind};
-use crate::font_gvar::varied_points::vary_points;
+use crate::font_gvar::sources::PointSource;
 use crate::memory::{AllocError, Vec};
 
 /// How many points a glyph may have, as HarfBuzz allows.
 const MOST_POINTS: usize = 200_000;
-
-/// What the points of glyphs are read from.
-#[derive(Clone, Copy, Debug)]
-pub(crate) struct PointSource<'a> {
-    /// The tables.
-    pub sources: &'a GlyphSources<'a>,
-    /// The place in the variations.
-    pub coordinates: &'a [i32],
-}
 
 impl PointSource<'_> {
     /// Adds all points of a glyph, and behind them its phantom points.
@@ -68,12 +59,7 @@ impl PointSource<'_> {
             return Ok(false);
         }
         push_phantoms(points, &self.sources.phantoms(glyph, outline))?;
-        vary_points(
-            self.sources,
-            glyph,
-            self.coordinates,
-            points.slice_mut(start.min(points.len())..),
-        )?;
+        self.vary_points(glyph, points.slice_mut(start.min(points.len())..))?;
         Ok(true)
     }
 
@@ -92,12 +78,7 @@ impl PointSource<'_> {
             })?;
         }
         push_phantoms(&mut offsets, &self.sources.phantoms(glyph, outline))?;
-        vary_points(
-            self.sources,
-            glyph,
-            self.coordinates,
-            offsets.as_mut_slice(),
-        )?;
+        self.vary_points(glyph, offsets.as_mut_slice())?;
         Ok(offsets)
     }
 
@@ -111,9 +92,22 @@ impl PointSource<'_> {
         points: &mut Vec<OutlinePoint>,
     ) -> Result<bool, AllocError> {
         let offsets = self.offsets_of(glyph, outline)?;
-        let mut phantoms = last_phantoms(offsets.as_slice());
+        self.push_components(outline, offsets.as_slice(), depth, steps, points)
+    }
+
+    /// The same, where it is known how far each component is moved, and behind that where the glyph's
+    /// phantom points are.
+    fn push_components(
+        self,
+        outline: &[u8],
+        offsets: &[OutlinePoint],
+        depth: u32,
+        steps: &mut u32,
+        points: &mut Vec<OutlinePoint>,
+    ) -> Result<bool, AllocError> {
+        let mut phantoms = last_phantoms(offsets);
         let mut components = Components::new(outline);
-        for place in 0..offsets.len() {
+        for offset in offsets {
             let Some(component) = components.next() else {
                 break;
             };
@@ -127,10 +121,7 @@ impl PointSource<'_> {
             if component.gives_metrics() {
                 phantoms = last_phantoms(points.as_slice());
             }
-            let offset = offsets
-                .get(place)
-                .map_or(component.offset, |offset| offset.at);
-            place_component(points.as_mut_slice(), start, &component, offset);
+            place_component(points.as_mut_slice(), start, &component, offset.at);
             points.truncate(points.len().saturating_sub(4));
             if points.len() > MOST_POINTS {
                 return Ok(false);
@@ -143,11 +134,8 @@ impl PointSource<'_> {
 
 /// Adds phantom points.
 fn push_phantoms(points: &mut Vec<OutlinePoint>, phantoms: &Phantoms) -> Result<(), AllocError> {
-    for number in 0..4 {
-        points.push(OutlinePoint {
-            at: phantoms.point(number),
-            is_end: false,
-        })?;
+    for at in [phantoms.left, phantoms.right, phantoms.top, phantoms.bottom] {
+        points.push(OutlinePoint { at, is_end: false })?;
     }
     Ok(())
 }

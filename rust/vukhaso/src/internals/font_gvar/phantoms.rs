@@ -5,15 +5,16 @@
 
 use crate::common::GlyphId;
 use crate::font_gvar::components::Components;
+use crate::font_gvar::glyf::{OutlineKind, outline_kind};
 use crate::font_gvar::points::Point;
 use crate::font_gvar::simple_outlines::point_count;
-use crate::font_gvar::sources::{GlyphSources, OutlineKind, outline_kind};
+use crate::font_gvar::sources::GlyphSources;
 use crate::font_gvar::tuple_deltas::TupleDeltas;
 use crate::font_gvar::tuple_scalar::tuple_scalar;
 use crate::font_gvar::tuples::{Tuple, Tuples};
 
 /// The phantom points of a glyph.
-#[derive(Clone, Copy, PartialEq, Debug, Default)]
+#[derive(Clone, Copy, Debug, Default)]
 pub struct Phantoms {
     /// The origin in horizontal lines.
     pub left: Point,
@@ -26,16 +27,6 @@ pub struct Phantoms {
 }
 
 impl Phantoms {
-    /// The point with this number, from 0 on.
-    pub(crate) fn point(&self, number: u32) -> Point {
-        match number {
-            0 => self.left,
-            1 => self.right,
-            2 => self.top,
-            _ => self.bottom,
-        }
-    }
-
     /// Moves the point with this number, from 0 on; there are four.
     fn move_point(&mut self, number: u32, by: Point) {
         match number {
@@ -96,7 +87,7 @@ fn phantoms_of(
     *steps -= 1;
     let outline = sources.outline(glyph)?;
     let own = own_phantoms(sources, glyph, outline, coordinates)?;
-    if outline_kind(outline) != OutlineKind::Composite {
+    if !matches!(outline_kind(outline), OutlineKind::Composite) {
         return Some(own);
     }
     let mut phantoms = own;

@@ -59,7 +59,7 @@ impl Point {
 }
 
 /// A point of an outline.
-#[derive(Clone, Copy, Debug, Default)]
+#[derive(Clone, Copy, Debug)]
 pub(crate) struct OutlinePoint {
     /// Where it is.
     pub at: Point,

@@ -3,8 +3,8 @@
 //! The points of outlines that are not put together of others (OpenType specification, "glyf - Glyph Data", "Simple Glyph
 //! Description").
 
+use crate::font_gvar::glyf::HEADER_SIZE;
 use crate::font_gvar::points::{OutlinePoint, Point};
-use crate::font_gvar::sources::HEADER_SIZE;
 use crate::font_tables::bytes::{i16_at, tail, u8_at, u16_at};
 use crate::font_variations::rounding::float;
 use crate::memory::{AllocError, Vec};

@@ -3,12 +3,11 @@
 //! The tables that the outlines of glyphs and their variations are in.
 
 use crate::common::GlyphId;
+use crate::font_gvar::glyf::{GlyfTables, HEADER_SIZE, outline};
 use crate::font_gvar::gvar::GlyphVariations;
 use crate::font_gvar::phantoms::Phantoms;
 use crate::font_gvar::points::Point;
-use crate::font_outlines::GlyfTables;
-use crate::font_outlines::glyf::outline;
-use crate::font_tables::bytes::{i16_at, u16_at};
+use crate::font_tables::bytes::i16_at;
 use crate::font_tables::metrics::Metrics;
 use crate::font_variations::rounding::float;
 
@@ -54,6 +53,15 @@ impl<'a> GlyphSources<'a> {
     }
 }
 
+/// What the points of glyphs are read from.
+#[derive(Clone, Copy, Debug)]
+pub(crate) struct PointSource<'a> {
+    /// The tables.
+    pub sources: &'a GlyphSources<'a>,
+    /// The place in the variations.
+    pub coordinates: &'a [i32],
+}
+
 /// Where a glyph's origin lies in horizontal lines, in font units.
 fn left_edge(metrics: &Metrics<'_>, glyph: GlyphId, outline: &[u8]) -> i32 {
     let x_min = i16_at(outline, 2).unwrap_or(0);
@@ -82,28 +90,5 @@ fn upwards(y: i32) -> Point {
     Point {
         x: 0.0,
         y: float(y),
-    }
-}
-
-/// How many bytes the header of an outline has.
-pub(crate) const HEADER_SIZE: usize = 10;
-
-/// What an outline is.
-#[derive(Clone, Copy, PartialEq, Eq, Debug)]
-pub(crate) enum OutlineKind {
-    /// It has no points.
-    Empty,
-    /// It has so many contours.
-    Simple(u16),
-    /// It is put together of other glyphs.
-    Composite,
-}
-
-/// What an outline is, by its number of contours.
-pub(crate) fn outline_kind(outline: &[u8]) -> OutlineKind {
-    match u16_at(outline, 0).unwrap_or(0) {
-        0 => OutlineKind::Empty,
-        count if count < 0x8000 => OutlineKind::Simple(count),
-        _ => OutlineKind::Composite,
     }
 }

@@ -2,10 +2,10 @@
 
 //! The points of a tuple, and their deltas.
 
-use crate::font_gvar::packed_deltas::PackedDeltas;
-use crate::font_gvar::packed_points::PackedPoints;
 use crate::font_gvar::points::Point;
 use crate::font_gvar::tuples::Tuple;
+use crate::font_variations::packed_deltas::PackedDeltas;
+use crate::font_variations::packed_points::PackedPoints;
 use crate::font_variations::rounding::float;
 
 /// The points of a tuple, each with its delta, which are read one after the other.

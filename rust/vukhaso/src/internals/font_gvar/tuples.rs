@@ -5,8 +5,8 @@
 
 use crate::font_gvar::flags::has_flag;
 use crate::font_gvar::gvar::GlyphVariations;
-use crate::font_gvar::packed_points::PackedPoints;
 use crate::font_tables::bytes::{part, tail, u16_at};
+use crate::font_variations::packed_points::PackedPoints;
 
 /// The tuples of a glyph, which are read one after the other.
 #[derive(Clone, Copy, Debug)]

@@ -5,7 +5,7 @@
 use crate::common::GlyphId;
 use crate::font_gvar::inference::infer_deltas;
 use crate::font_gvar::points::{Delta, OutlinePoint};
-use crate::font_gvar::sources::GlyphSources;
+use crate::font_gvar::sources::PointSource;
 use crate::font_gvar::tuple_deltas::TupleDeltas;
 use crate::font_gvar::tuple_scalar::tuple_scalar;
 use crate::font_gvar::tuples::{Tuple, Tuples};
@@ -23,44 +23,47 @@ struct VariedPoints<'p> {
     is_pending: bool,
 }
 
-/// Moves points of a glyph, its phantom points among them, by the variations of the glyph at these
-/// coordinates. Where a tuple of these is broken, it and those behind it are passed over.
-pub(crate) fn vary_points(
-    sources: &GlyphSources<'_>,
-    glyph: GlyphId,
-    coordinates: &[i32],
-    points: &mut [OutlinePoint],
-) -> Result<(), AllocError> {
-    if coordinates.is_empty() {
-        return Ok(());
-    }
-    let data = sources.variations.data_of(glyph);
-    let Some(mut tuples) = Tuples::new(&sources.variations, data) else {
-        return Ok(());
-    };
-    let mut varied = VariedPoints::new(points)?;
-    for _ in data {
-        let Some(tuple) = tuples.next() else {
-            break;
-        };
-        let scalar = tuple_scalar(&sources.variations, &tuple, coordinates);
-        if scalar != 0.0 && varied.add(&tuple, scalar).is_none() {
+impl PointSource<'_> {
+    /// Moves points of a glyph, its phantom points among them, by the variations of the glyph. Where a
+    /// tuple of these is broken, it and those behind it are passed over.
+    pub(crate) fn vary_points(
+        self,
+        glyph: GlyphId,
+        points: &mut [OutlinePoint],
+    ) -> Result<(), AllocError> {
+        if self.coordinates.is_empty() {
             return Ok(());
         }
+        let data = self.sources.variations.data_of(glyph);
+        let Some(tuples) = Tuples::new(&self.sources.variations, data) else {
+            return Ok(());
+        };
+        let mut varied = VariedPoints::new(points)?;
+        self.move_by(tuples, data, &mut varied);
+        Ok(())
     }
-    varied.settle();
-    Ok(())
+
+    /// Moves points by the tuples in these bytes.
+    fn move_by(self, mut tuples: Tuples<'_>, data: &[u8], varied: &mut VariedPoints<'_>) {
+        for _ in data {
+            let Some(tuple) = tuples.next() else {
+                break;
+            };
+            let scalar = tuple_scalar(&self.sources.variations, &tuple, self.coordinates);
+            if scalar != 0.0 && varied.add(&tuple, scalar).is_none() {
+                return;
+            }
+        }
+        varied.settle();
+    }
 }
 
 impl<'p> VariedPoints<'p> {
     /// Points that are not moved yet.
     fn new(points: &'p mut [OutlinePoint]) -> Result<Self, AllocError> {
-        let mut original = Vec::new();
+        let original = Vec::from_slice(points)?;
         let mut deltas = Vec::new();
-        for point in points.iter() {
-            original.push(*point)?;
-            deltas.push(Delta::default())?;
-        }
+        deltas.resize(points.len(), Delta::default())?;
         Ok(VariedPoints {
             points,
             original,

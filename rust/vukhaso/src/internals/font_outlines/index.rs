@@ -2,27 +2,9 @@
 
 //! The items of an INDEX (The Compact Font Format Specification, "INDEX Data").
 
-use crate::font_outlines::glyf::between;
-use crate::font_tables::bytes::{u8_at, u16_at, u24_at, u32_at};
-
-/// A number of one to four bytes at a place, its high byte first; `None` for other sizes, and where its
-/// bytes do not lie in the table.
-///
-/// # Proved
-///
-/// ```text
-/// ensures { result ≡ number_of_size size table.now at }
-/// ```
-#[inline]
-pub fn number_of_size(size: u8, table: &[u8], at: usize) -> Option<u32> {
-    match size {
-        1 => u8_at(table, at).map(u32::from),
-        2 => u16_at(table, at).map(u32::from),
-        3 => u24_at(table, at),
-        4 => u32_at(table, at),
-        _ => None,
-    }
-}
+use crate::font_gvar::glyf::between;
+use crate::font_tables::bytes::{u8_at, u16_at};
+use crate::font_variations::index_map::number_of_size;
 
 /// How many items an INDEX has; none where the table is empty.
 ///

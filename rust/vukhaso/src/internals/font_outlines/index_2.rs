@@ -3,10 +3,10 @@
 //! The items of an INDEX of the table `CFF2`, whose count has 32 bits (OpenType specification, "CFF2 - Compact Font Format 2
 //! Table", "INDEX Data").
 
-use crate::font_outlines::glyf::between;
-use crate::font_outlines::index::number_of_size;
+use crate::font_gvar::glyf::between;
 use crate::font_outlines::subroutines::bias;
 use crate::font_tables::bytes::{u8_at, u32_at};
+use crate::font_variations::index_map::number_of_size;
 
 /// How many items an INDEX has; none where the table is empty.
 pub(crate) fn count_2(index: &[u8]) -> u32 {

@@ -3,8 +3,8 @@
 //! The outlines of a font, of either kind.
 
 use crate::common::GlyphId;
+use crate::font_gvar::GlyfTables;
 use crate::font_outlines::cff::CffTable;
-use crate::font_outlines::glyf::GlyfTables;
 use crate::glyph::GlyphExtents;
 
 /// The outlines of a font: those of `glyf`, and of `CFF ` for the glyphs that `glyf` does not have.

@@ -3,7 +3,7 @@
 //! The path that a charstring draws, and its bounds.
 
 /// A point, or how far it is from one point to another, in 65,536ths of a font unit.
-#[derive(Clone, Copy, Debug, Default)]
+#[derive(Clone, Copy, Debug)]
 pub struct Point {
     /// To the right.
     pub x: i64,

@@ -67,16 +67,25 @@ fn entry(table: &[u8], number: u32) -> u32 {
         6
     };
     let size = u8_at(table, 1).unwrap_or(0) / 16 % 4 + 1;
-    number_of_bytes(size, table, start + usize::from(size) * number as usize).unwrap_or(0)
+    number_of_size(size, table, start + usize::from(size) * number as usize).unwrap_or(0)
 }
 
-/// A number of one to four bytes at a place.
-fn number_of_bytes(size: u8, table: &[u8], at: usize) -> Option<u32> {
+/// A number of one to four bytes at a place, its high byte first; `None` for other sizes, and where its
+/// bytes do not lie in the table.
+///
+/// # Proved
+///
+/// ```text
+/// ensures { result ≡ number_of_size size table.now at }
+/// ```
+#[inline]
+pub fn number_of_size(size: u8, table: &[u8], at: usize) -> Option<u32> {
     match size {
         1 => u8_at(table, at).map(u32::from),
         2 => u16_at(table, at).map(u32::from),
         3 => u24_at(table, at),
-        _ => u32_at(table, at),
+        4 => u32_at(table, at),
+        _ => None,
     }
 }
 

@@ -1,6 +1,6 @@
 // Written by tools/plain_rust from crates/font_variations. Do not edit.
 
-//! Floats of whole numbers, and whole numbers of floats.
+//! Floats of whole numbers, whole numbers of floats, and which of two floats is the lesser.
 
 #[cfg(not(any(test, feature = "std")))]
 use crate::numbers::Round;
@@ -32,4 +32,28 @@ pub fn float(number: i32) -> f32 {
 #[inline]
 pub fn rounded(number: f32) -> i32 {
     saturating_f32_to_i32((number + HALF).floor())
+}
+
+/// The lesser of two floats; the second one where they are not ordered.
+///
+/// # Proved
+///
+/// ```text
+/// ensures { result ≡ lesser one other }
+/// ```
+#[inline]
+pub fn lesser(one: f32, other: f32) -> f32 {
+    if one <= other { one } else { other }
+}
+
+/// The greater of two floats; the second one where they are not ordered.
+///
+/// # Proved
+///
+/// ```text
+/// ensures { result ≡ greater one other }
+/// ```
+#[inline]
+pub fn greater(one: f32, other: f32) -> f32 {
+    if one >= other { one } else { other }
 }

@@ -1,13 +1,13 @@
-//! Tests of `font_outlines`. The boxes of charstrings are those that HarfBuzz's `hb-shape --show-extents` prints.
+//! Tests of `font_outlines`, and of boxes in `glyf`. The boxes of charstrings are those that HarfBuzz's `hb-shape --show-extents` prints.
 
 use vukhaso::internals::common::GlyphId;
+use vukhaso::internals::font_gvar::GlyfTables;
+use vukhaso::internals::font_gvar::glyf::outline;
 use vukhaso::internals::font_outlines::charset::{predefined_charset, string_number, string_of};
-use vukhaso::internals::font_outlines::glyf::outline;
-use vukhaso::internals::font_outlines::index::{
-    index_count, index_item, index_size, number_of_size,
-};
+use vukhaso::internals::font_outlines::index::{index_count, index_item, index_size};
 use vukhaso::internals::font_outlines::standard_strings::standard_string;
-use vukhaso::internals::font_outlines::{CffTable, GlyfTables, Outlines};
+use vukhaso::internals::font_outlines::{CffTable, Outlines};
+use vukhaso::internals::font_variations::index_map::number_of_size;
 use vukhaso::internals::glyph::GlyphExtents;
 
 /// The numbers of a box: its left side, its top, its width and its height.

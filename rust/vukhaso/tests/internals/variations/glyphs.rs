@@ -3,9 +3,8 @@
 use vukhaso::internals::common::GlyphId;
 use vukhaso::internals::font_colors::{ColrTable, DrawnOutlines};
 use vukhaso::internals::font_gvar::{
-    GlyphSources, GlyphVariations, Point, varied_outline, varied_phantoms,
+    GlyfTables, GlyphSources, GlyphVariations, Point, varied_outline, varied_phantoms,
 };
-use vukhaso::internals::font_outlines::GlyfTables;
 use vukhaso::internals::font_tables::metrics::Metrics;
 use vukhaso::internals::font_tables::scale::Scale;
 
