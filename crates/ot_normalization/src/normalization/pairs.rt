@@ -22,10 +22,7 @@ pub(crate) struct Composing<'a, F> {
 
 impl<'a, F> Composing<'a, F> {
     /// How they are composed in a script, with this font.
-    pub fn new(font: &'a F, script: &ScriptPlan) -> Self
-        ensures shaper { result.shaper ≡ script.now.shaper }
-        ensures marks { result.has_gpos_mark ≡ script.now.has_gpos_mark }
-    {
+    pub fn new(font: &'a F, script: &ScriptPlan) -> Self {
         Composing {
             font,
             shaper: script.shaper,

@@ -24,10 +24,7 @@ impl<'a, F> Composing<'a, F> {
     ///
     /// # Proved
     ///
-    /// ```text
-    /// ensures shaper { result.shaper ≡ script.now.shaper }
-    /// ensures marks { result.has_gpos_mark ≡ script.now.has_gpos_mark }
-    /// ```
+    /// That it returns.
     #[inline]
     pub fn new(font: &'a F, script: &ScriptPlan) -> Self {
         Composing {
