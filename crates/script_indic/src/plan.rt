@@ -7,14 +7,13 @@ ghost use Rattle.shaping_passes.specs.Refusals.{IsRefusal};
 
 use crate::configuration::IndicConfiguration;
 use crate::final_order::order_finally;
-use crate::item::is_multiplied;
 use crate::machine::indic_machine;
 use crate::reordering::order_initially;
 use ot_map::Pause;
 use rb_common::{Script, Tag, script};
 use script_syllables::FontForms;
 use script_syllables::grammar::Grammar;
-use script_syllables::item::is_ligated;
+use script_syllables::item::{is_ligated, is_multiplied};
 use script_syllables::syllables::find_syllables;
 use shaping_buffer::hb_buffer_t;
 use std::alloc::{AllocError, Global};
