@@ -1,4 +1,1 @@
--- Why the items of a syllable that are sorted keep the clusters: they are sorted with their places and written back, the
--- same items in another order (`PlacedLemmas`).
-
-pub mod PlacedLemmas
+-- What is moved, sorted and numbered is proved by the lemmas of `script_syllables`: no lemma is needed here.

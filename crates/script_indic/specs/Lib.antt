@@ -1,5 +1,4 @@
 pub mod Composition
 pub mod IndicFeatures
-pub mod Placed
 pub mod Scripts
 pub mod Stages

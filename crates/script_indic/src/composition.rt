@@ -8,8 +8,6 @@ ghost use Rattle.unicode_tables.specs.Mapping.{parts_of};
 ghost use Rattle.script_syllables.specs.Composition.{is_mark};
 ghost use Rattle.script_indic.specs.Composition.{is_yya, stays_whole};
 
-use rb_glyph::{CharExt, GeneralCategoryExt};
-
 /// The one or two characters that a character decomposes to. Some letters stay whole, since fonts have glyphs for them.
 pub fn decompose(character: char) -> Option<(char, Option<char>)>
     ensures whole { stays_whole character ≡ true → result ≡ None }
@@ -35,8 +33,5 @@ pub fn compose(a: char, b: char) -> Option<char>
     if a == '\u{9AF}' && b == '\u{9BC}' {
         return Some('\u{9DF}');
     }
-    if a.general_category().is_mark() {
-        return None;
-    }
-    unicode_tables::compose(a, b)
+    script_syllables::composition::compose(a, b)
 }

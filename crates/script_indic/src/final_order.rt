@@ -6,7 +6,6 @@ ghost use Rattle.shaping_buffer.specs.KeepsClusters.{KeepsClusters};
 ghost use Rattle.script_syllables.specs.KeepsNumbers.{KeepsNumbers};
 
 use crate::final_base::{FinalBase, find_final_base};
-use crate::item::{forget_ligature, is_multiplied};
 use crate::matras::move_matras;
 use crate::plan::IndicPlan;
 use crate::pref::move_pref;
@@ -15,7 +14,9 @@ use rb_glyph::hb_gc::{
     RB_UNICODE_GENERAL_CATEGORY_FORMAT, RB_UNICODE_GENERAL_CATEGORY_NON_SPACING_MARK,
 };
 use script_items::item::general_category;
-use script_syllables::item::{add_mask, is_ligated, position, set_category};
+use script_syllables::item::{
+    add_mask, forget_ligature, is_ligated, is_multiplied, position, set_category,
+};
 use script_syllables::reordering::{SyllableOrder, reorder_syllables};
 use script_syllables::syllables::within;
 use script_syllables::{Category, Position};

@@ -1,28 +1,8 @@
 //! What an item of an Indic syllable is, by its category and by what became of its glyph.
 
-ghost use Rattle.std.specs.Prelude.{◌≡◌};
-
-use rb_glyph::{Flags, GlyphPropsFlags, hb_glyph_info_t};
-use script_syllables::item::{category, has, is_ligated};
+use rb_glyph::hb_glyph_info_t;
+use script_syllables::item::{category, is_ligated};
 use script_syllables::{Category, item};
-
-/// Whether the glyph is one of several that a lookup made of one.
-pub(crate) fn is_multiplied(info: &hb_glyph_info_t) -> bool {
-    has(info, GlyphPropsFlags::MULTIPLIED)
-}
-
-/// Whether the glyph is a ligature, and not one of several that were made of it.
-pub(crate) fn is_whole_ligature(info: &hb_glyph_info_t) -> bool {
-    is_ligated(info) && !is_multiplied(info)
-}
-
-/// Forgets that the glyph is a ligature and one of several.
-pub(crate) fn forget_ligature(info: &mut hb_glyph_info_t)
-    ensures { info.new.cluster ≡ info.old.cluster }
-{
-    let forgotten = GlyphPropsFlags::LIGATED.bits() | GlyphPropsFlags::MULTIPLIED.bits();
-    info.set_glyph_props(info.glyph_props() & !forgotten);
-}
 
 /// Whether the item is a consonant, a medial one too, or what takes signs as one. What became a ligature is none.
 pub(crate) fn is_consonant(info: &hb_glyph_info_t) -> bool {

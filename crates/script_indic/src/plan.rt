@@ -7,14 +7,13 @@ ghost use Rattle.shaping_passes.specs.Refusals.{IsRefusal};
 
 use crate::configuration::IndicConfiguration;
 use crate::final_order::order_finally;
-use crate::item::is_multiplied;
 use crate::machine::indic_machine;
 use crate::reordering::order_initially;
 use ot_map::Pause;
 use rb_common::{Script, Tag, script};
 use script_syllables::FontForms;
 use script_syllables::grammar::Grammar;
-use script_syllables::item::is_ligated;
+use script_syllables::item::{is_ligated, is_multiplied};
 use script_syllables::syllables::find_syllables;
 use shaping_buffer::hb_buffer_t;
 use std::alloc::{AllocError, Global};
@@ -116,7 +115,7 @@ impl IndicPlan {
                 self.setup_syllables(buffer);
                 Ok(true)
             }
-            Pause::InitialReordering => self.initial_reordering(alloc, buffer, font),
+            Pause::InitialReordering => order_initially(alloc, buffer, self, font),
             Pause::FinalReordering => {
                 self.final_reordering(buffer, font);
                 Ok(true)
@@ -137,22 +136,6 @@ impl IndicPlan {
             passes_over: false,
         };
         find_syllables(buffer, &grammar);
-    }
-
-    /// Puts the glyphs of each syllable in the order in which the basic features find them. `Ok(false)` where the text would become too
-    /// long.
-    fn initial_reordering<F: FontForms>(
-        &self,
-        alloc: Global,
-        buffer: &mut hb_buffer_t,
-        font: &mut F,
-    ) -> Result<bool, AllocError>
-        requires { buffer.old.have_output ≡ false }
-        ensures closed { IfOk result (λ done. done ≡ true → buffer.new.have_output ≡ false) }
-        ensures refusal { IsRefusal false result buffer.new }
-        ensures keeps { KeepsNumbers buffer.old buffer.new }
-    {
-        order_initially(alloc, buffer, self, font)
     }
 
     /// Puts the glyphs of each syllable in the order in which they are seen, after the basic features.

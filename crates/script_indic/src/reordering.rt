@@ -34,7 +34,8 @@ const CIRCLE: CircleKind = CircleKind {
     broken: BROKEN,
 };
 
-/// Puts the glyphs of each syllable in order.
+/// Puts the glyphs of each syllable in the order in which the basic features find them. `Ok(false)` where the text would become too
+/// long.
 #[tactic(auto, using(script_syllables::proofs::NumbersLemmas::numbered))]
 pub(crate) fn order_initially<F: FontForms>(
     alloc: Global,

@@ -163,7 +163,7 @@ impl ScriptShaper {
     {
         match self {
             Indic => script_indic::composition::compose(a, b),
-            Khmer | Universal | UniversalJoining => khmer::composition::compose(a, b),
+            Khmer | Universal | UniversalJoining => script_syllables::composition::compose(a, b),
             Hebrew => compose_hebrew(a, b, has_gpos_mark),
             Default | Arabic | Hangul | Thai | Myanmar | Zawgyi | Plain => {
                 unicode_tables::compose(a, b)

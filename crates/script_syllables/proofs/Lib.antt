@@ -2,10 +2,11 @@
 --
 -- A range is merged before its items move, so that it is one cluster. Then a part of the list is written anew with the
 -- same clusters place by place, or the same items in another order (`MovedLemmas`), as one that is turned in a range
--- (`TurnLemmas`). In any order of clusters nothing is merged, and what stays is which numbers there are
--- (`NumbersLemmas`). Which characters make a syllable, and in which order they stand, is compared with HarfBuzz, and
--- not proved.
+-- (`TurnLemmas`), or that is sorted with its places and written back (`PlacedLemmas`). In any order of clusters nothing
+-- is merged, and what stays is which numbers there are (`NumbersLemmas`). Which characters make a syllable, and in which
+-- order they stand, is compared with HarfBuzz, and not proved.
 
 pub mod MovedLemmas
 pub mod NumbersLemmas
+pub mod PlacedLemmas
 pub mod TurnLemmas

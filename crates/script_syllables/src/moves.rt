@@ -51,7 +51,7 @@ fn last_to_start<T>(items: &mut [T], start: usize, end: usize, count: usize)
 
 /// Puts the items from a place to another into reverse order.
 #[tactic(auto, using(crate::proofs::MovedLemmas::moves))]
-pub fn turn<T>(items: &mut [T], start: usize, end: usize)
+pub(crate) fn turn<T>(items: &mut [T], start: usize, end: usize)
     ensures is { items.new ≡ turned start end items.old }
     ensures moved { IsPermutation items.old items.new }
 {

@@ -10,11 +10,11 @@ use crate::myanmar::plan::MyanmarShaper;
 use crate::myanmar::positions::set_positions;
 use crate::pauses::BROKEN;
 use script_syllables::clusters::merge;
-use script_syllables::item::{category, position};
-use script_syllables::moves::{move_last, turn};
+use script_syllables::item::position;
+use script_syllables::left_matras::turn_left_matras;
+use script_syllables::moves::move_last;
 use script_syllables::reordering::SyllableOrder;
 use script_syllables::syllables::{kind_at, within};
-use script_syllables::{Category, Position};
 use shaping_buffer::{hb_buffer_t, hb_glyph_info_t};
 use std::ops::Range;
 
@@ -104,49 +104,4 @@ fn new_place(infos: &[hb_glyph_info_t], start: usize, place: usize) -> usize {
         }
     }
     start
-}
-
-/// Puts vowel signs on the left into reverse order, since the last one is seen first. What belongs to a sign stays behind it.
-#[tactic(auto, using(script_syllables::proofs::MovedLemmas::moves))]
-fn turn_left_matras(syllable: &mut [hb_glyph_info_t])
-    ensures { IsPermutation syllable.old syllable.new }
-{
-    let (first, count) = left_matras(syllable);
-    if count < 2 {
-        return;
-    }
-    let end = first.saturating_add(count);
-    turn(syllable, first, end);
-    let mut start = first;
-    for place in first..end {
-        start = turn_group(syllable, start, place);
-    }
-}
-
-/// Puts what stands from a place to another into reverse order, if a vowel sign is the last of it. Where the next group begins.
-#[tactic(auto, using(script_syllables::proofs::MovedLemmas::moves))]
-fn turn_group(syllable: &mut [hb_glyph_info_t], start: usize, place: usize) -> usize
-    ensures { IsPermutation syllable.old syllable.new }
-{
-    if place >= syllable.len() || category(&syllable[place]) != Category::VowelPre {
-        return start;
-    }
-    let end = place.saturating_add(1);
-    turn(syllable, start, end);
-    end
-}
-
-/// The place of the first vowel sign on the left, and how many there are.
-fn left_matras(syllable: &[hb_glyph_info_t]) -> (usize, usize) {
-    let Some(first) = syllable
-        .iter()
-        .position(|info| position(info) == Position::PreMatra)
-    else {
-        return (0, 0);
-    };
-    let count = syllable
-        .iter()
-        .filter(|info| position(info) == Position::PreMatra)
-        .count();
-    (first, count)
 }

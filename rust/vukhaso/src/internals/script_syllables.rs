@@ -15,14 +15,17 @@ pub use vowels::part_vowels;
 
 pub mod category;
 pub mod clusters;
+pub mod composition;
 pub mod dotted_circle;
 pub mod font;
 pub mod grammar;
 pub mod item;
+pub mod left_matras;
 pub mod machine;
 pub mod moves;
 pub mod reordering;
 pub mod requests;
+pub mod sorting;
 pub mod syllables;
 pub mod vowel_sequences;
 pub mod vowels;

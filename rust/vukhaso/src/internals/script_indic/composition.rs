@@ -2,8 +2,6 @@
 
 //! Characters that are taken apart and composed otherwise than by Unicode's canonical mappings.
 
-use crate::glyph::{CharExt, GeneralCategoryExt};
-
 /// The one or two characters that a character decomposes to. Some letters stay whole, since fonts have
 /// glyphs for them.
 ///
@@ -40,8 +38,5 @@ pub fn compose(a: char, b: char) -> Option<char> {
     if a == '\u{9AF}' && b == '\u{9BC}' {
         return Some('\u{9DF}');
     }
-    if a.general_category().is_mark() {
-        return None;
-    }
-    crate::unicode_tables::compose(a, b)
+    crate::script_syllables::composition::compose(a, b)
 }

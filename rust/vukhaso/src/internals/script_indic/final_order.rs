@@ -7,13 +7,14 @@ use crate::glyph::hb_gc::{
     RB_UNICODE_GENERAL_CATEGORY_FORMAT, RB_UNICODE_GENERAL_CATEGORY_NON_SPACING_MARK,
 };
 use crate::script_indic::final_base::{FinalBase, find_final_base};
-use crate::script_indic::item::{forget_ligature, is_multiplied};
 use crate::script_indic::matras::move_matras;
 use crate::script_indic::plan::IndicPlan;
 use crate::script_indic::pref::move_pref;
 use crate::script_indic::reph::move_reph;
 use crate::script_items::item::general_category;
-use crate::script_syllables::item::{add_mask, is_ligated, position, set_category};
+use crate::script_syllables::item::{
+    add_mask, forget_ligature, is_ligated, is_multiplied, position, set_category,
+};
 use crate::script_syllables::reordering::{SyllableOrder, reorder_syllables};
 use crate::script_syllables::syllables::within;
 use crate::script_syllables::{Category, Position};

@@ -8,12 +8,11 @@ use crate::memory::AllocError;
 use crate::ot_map::Pause;
 use crate::script_indic::configuration::IndicConfiguration;
 use crate::script_indic::final_order::order_finally;
-use crate::script_indic::item::is_multiplied;
 use crate::script_indic::machine::indic_machine;
 use crate::script_indic::reordering::order_initially;
 use crate::script_syllables::FontForms;
 use crate::script_syllables::grammar::Grammar;
-use crate::script_syllables::item::is_ligated;
+use crate::script_syllables::item::{is_ligated, is_multiplied};
 use crate::script_syllables::syllables::find_syllables;
 
 /// The kind of syllables without a base.
@@ -136,7 +135,7 @@ impl IndicPlan {
                 self.setup_syllables(buffer);
                 Ok(true)
             }
-            Pause::InitialReordering => self.initial_reordering(buffer, font),
+            Pause::InitialReordering => order_initially(buffer, self, font),
             Pause::FinalReordering => {
                 self.final_reordering(buffer, font);
                 Ok(true)
@@ -158,25 +157,6 @@ impl IndicPlan {
             passes_over: false,
         };
         find_syllables(buffer, &grammar);
-    }
-
-    /// Puts the glyphs of each syllable in the order in which the basic features find them.
-    ///
-    /// # Requires
-    ///
-    /// - `buffer.old.have_output ≡ false`
-    ///
-    /// # Errors
-    ///
-    /// `Ok(false)` where the text would become too long.
-    fn initial_reordering<F: FontForms>(
-        &self,
-
-        buffer: &mut hb_buffer_t,
-        font: &mut F,
-    ) -> Result<bool, AllocError> {
-        debug_assert!(!buffer.have_output());
-        order_initially(buffer, self, font)
     }
 
     /// Puts the glyphs of each syllable in the order in which they are seen, after the basic features.

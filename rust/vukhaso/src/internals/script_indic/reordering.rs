@@ -30,11 +30,15 @@ const CIRCLE: CircleKind = CircleKind {
     broken: BROKEN,
 };
 
-/// Puts the glyphs of each syllable in order.
+/// Puts the glyphs of each syllable in the order in which the basic features find them.
 ///
 /// # Requires
 ///
 /// - `buffer.old.have_output ≡ false`
+///
+/// # Errors
+///
+/// `Ok(false)` where the text would become too long.
 pub(crate) fn order_initially<F: FontForms>(
     buffer: &mut hb_buffer_t,
     plan: &IndicPlan,

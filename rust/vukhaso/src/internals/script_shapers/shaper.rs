@@ -185,7 +185,9 @@ impl ScriptShaper {
     pub fn compose(self, a: char, b: char, has_gpos_mark: bool) -> Option<char> {
         match self {
             Indic => crate::script_indic::composition::compose(a, b),
-            Khmer | Universal | UniversalJoining => khmer::composition::compose(a, b),
+            Khmer | Universal | UniversalJoining => {
+                crate::script_syllables::composition::compose(a, b)
+            }
             Hebrew => compose_hebrew(a, b, has_gpos_mark),
             Default | Arabic | Hangul | Thai | Myanmar | Zawgyi | Plain => {
                 crate::unicode_tables::compose(a, b)

@@ -129,12 +129,7 @@ pub fn add_mask(infos: &mut [hb_glyph_info_t], start: usize, end: usize, mask: u
 }
 
 /// Whether a glyph has one of these properties.
-///
-/// # Proved
-///
-/// That it returns.
-#[inline]
-pub fn has(info: &hb_glyph_info_t, properties: GlyphPropsFlags) -> bool {
+fn has(info: &hb_glyph_info_t, properties: GlyphPropsFlags) -> bool {
     info.glyph_props() & properties.bits() != 0
 }
 
@@ -156,6 +151,39 @@ pub fn is_substituted(info: &hb_glyph_info_t) -> bool {
 #[inline]
 pub fn is_ligated(info: &hb_glyph_info_t) -> bool {
     has(info, GlyphPropsFlags::LIGATED)
+}
+
+/// Whether the glyph is one of several that a lookup made of one.
+///
+/// # Proved
+///
+/// That it returns.
+#[inline]
+pub fn is_multiplied(info: &hb_glyph_info_t) -> bool {
+    has(info, GlyphPropsFlags::MULTIPLIED)
+}
+
+/// Whether the glyph is a ligature, and not one of several that were made of it.
+///
+/// # Proved
+///
+/// That it returns.
+#[inline]
+pub fn is_whole_ligature(info: &hb_glyph_info_t) -> bool {
+    is_ligated(info) && !is_multiplied(info)
+}
+
+/// Forgets that the glyph is a ligature and one of several.
+///
+/// # Proved
+///
+/// ```text
+/// ensures { info.new.cluster ≡ info.old.cluster }
+/// ```
+#[inline]
+pub fn forget_ligature(info: &mut hb_glyph_info_t) {
+    let forgotten = GlyphPropsFlags::LIGATED.bits() | GlyphPropsFlags::MULTIPLIED.bits();
+    info.set_glyph_props(info.glyph_props() & !forgotten);
 }
 
 /// Whether syllables pass over an item.

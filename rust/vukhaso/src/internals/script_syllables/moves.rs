@@ -65,15 +65,7 @@ fn last_to_start<T>(items: &mut [T], start: usize, end: usize, count: usize) {
 }
 
 /// Puts the items from a place to another into reverse order.
-///
-/// # Proved
-///
-/// ```text
-/// ensures is { items.new ≡ turned start end items.old }
-/// ensures moved { IsPermutation items.old items.new }
-/// ```
-#[inline]
-pub fn turn<T>(items: &mut [T], start: usize, end: usize) {
+pub(crate) fn turn<T>(items: &mut [T], start: usize, end: usize) {
     if start < end && end <= items.len() {
         items[start..end].reverse();
     }

@@ -1,8 +1,6 @@
 // Written by tools/plain_rust from crates/script_universal. Do not edit.
 
-//! Characters that are taken apart and composed otherwise than by Unicode's canonical mappings.
-
-use crate::glyph::{CharExt, GeneralCategoryExt};
+//! Characters that are taken apart otherwise than by Unicode's canonical mappings.
 
 /// The one or two characters that a character decomposes to. Of vowel signs on both sides of a letter,
 /// the left part is apart, and what is left keeps the number of the whole.
@@ -23,21 +21,4 @@ pub fn decompose(character: char) -> Option<(char, Option<char>)> {
         }
         _ => crate::unicode_tables::decompose(character),
     }
-}
-
-/// What a character and the next one compose to. Vowel signs of several parts stay apart.
-///
-/// # Proved
-///
-/// ```text
-/// ensures marks { is_mark a ≡ true → result ≡ None }
-/// ensures hangul { is_mark a ≡ false → (s : ℕ) → HangulComposes s a b → result ≡ Some s }
-/// ensures data { is_mark a ≡ false → ((s : ℕ) → ¬ HangulComposes s a b) → result ≡ composite a b }
-/// ```
-#[inline]
-pub fn compose(a: char, b: char) -> Option<char> {
-    if a.general_category().is_mark() {
-        return None;
-    }
-    crate::unicode_tables::compose(a, b)
 }

@@ -4,11 +4,11 @@
 
 use crate::buffer::{hb_buffer_t, hb_glyph_info_t};
 use crate::script_syllables::clusters::merge;
-use crate::script_syllables::item::{category, position};
-use crate::script_syllables::moves::{move_last, turn};
+use crate::script_syllables::item::position;
+use crate::script_syllables::left_matras::turn_left_matras;
+use crate::script_syllables::moves::move_last;
 use crate::script_syllables::reordering::SyllableOrder;
 use crate::script_syllables::syllables::{kind_at, within};
-use crate::script_syllables::{Category, Position};
 use crate::script_universal::myanmar::plan::MyanmarShaper;
 use crate::script_universal::myanmar::positions::set_positions;
 use crate::script_universal::pauses::BROKEN;
@@ -96,45 +96,4 @@ fn new_place(infos: &[hb_glyph_info_t], start: usize, place: usize) -> usize {
         }
     }
     start
-}
-
-/// Puts vowel signs on the left into reverse order, since the last one is seen first. What belongs to a
-/// sign stays behind it.
-fn turn_left_matras(syllable: &mut [hb_glyph_info_t]) {
-    let (first, count) = left_matras(syllable);
-    if count < 2 {
-        return;
-    }
-    let end = first.saturating_add(count);
-    turn(syllable, first, end);
-    let mut start = first;
-    for place in first..end {
-        start = turn_group(syllable, start, place);
-    }
-}
-
-/// Puts what stands from a place to another into reverse order, if a vowel sign is the last of it.
-/// Where the next group begins.
-fn turn_group(syllable: &mut [hb_glyph_info_t], start: usize, place: usize) -> usize {
-    if place >= syllable.len() || category(&syllable[place]) != Category::VowelPre {
-        return start;
-    }
-    let end = place.saturating_add(1);
-    turn(syllable, start, end);
-    end
-}
-
-/// The place of the first vowel sign on the left, and how many there are.
-fn left_matras(syllable: &[hb_glyph_info_t]) -> (usize, usize) {
-    let Some(first) = syllable
-        .iter()
-        .position(|info| position(info) == Position::PreMatra)
-    else {
-        return (0, 0);
-    };
-    let count = syllable
-        .iter()
-        .filter(|info| position(info) == Position::PreMatra)
-        .count();
-    (first, count)
 }
