@@ -12,7 +12,7 @@ use crate::noncontextual::replace_all;
 use crate::setting::{Reach, Setting};
 use crate::work::Work;
 use crate::writing::fail;
-use aat_tables::metamorphosis::Coverage;
+use aat_tables::metamorphosis::SubtableCoverage;
 use aat_tables::{Lookup, Metamorphosis, StateTable, Subtable};
 use font_tables::gdef::Gdef;
 use shaping_buffer::{Direction, hb_buffer_t};
@@ -91,12 +91,12 @@ fn apply_chain(
 }
 
 /// Whether a subtable is for lines that run in a direction.
-fn is_for(coverage: Coverage, direction: Direction) -> bool {
+fn is_for(coverage: SubtableCoverage, direction: Direction) -> bool {
     coverage.all_directions || coverage.is_vertical == direction.is_vertical()
 }
 
 /// Whether a subtable goes over the glyphs from the last one on: they stand in the order of the characters.
-fn is_reversed(coverage: Coverage, direction: Direction) -> bool {
+fn is_reversed(coverage: SubtableCoverage, direction: Direction) -> bool {
     if coverage.is_logical {
         coverage.is_backwards
     } else {

@@ -4,7 +4,7 @@ use Rattle.std.specs.Prelude.{bit_and, if◌then◌else◌, not, option_and_then
 use Rattle.font_tables.specs.Bytes.{number_16, number_32}
 use Rattle.aat_tables.specs.declared.metamorphosis.Chain.{Chain}
 use Rattle.aat_tables.specs.declared.metamorphosis.ChainFeature.{ChainFeature}
-use Rattle.aat_tables.specs.declared.metamorphosis.Coverage.{Coverage}
+use Rattle.aat_tables.specs.declared.metamorphosis.SubtableCoverage.{SubtableCoverage}
 use Rattle.aat_tables.specs.declared.metamorphosis.Subtable.{Subtable}
 use Rattle.aat_tables.specs.declared.metamorphosis.SubtableKind.{SubtableKind}
 use Rattle.aat_tables.specs.declared.metamorphosis.SubtableKind.TheVariants.{Rearrangement, Contextual, Ligature, Noncontextual, Insertion}
@@ -42,7 +42,7 @@ abbrev pub has_bit : ℕ → ℕ → Bool
 has_bit bits bit = not (nat_eq (bit_and bits bit) 0)
 
 -- the four highest bits: vertical lines, backwards, lines of both kinds, and the order of the characters
-abbrev pub coverage_of : ℕ → Coverage
+abbrev pub coverage_of : ℕ → SubtableCoverage
 coverage_of bits = record {
   is_vertical = has_bit bits 0x80000000;
   is_backwards = has_bit bits 0x40000000;
@@ -53,7 +53,7 @@ coverage_of bits = record {
 -- what a subtable has, but for the digest of its glyphs
 pub record SubtableParts : Type 0 where
   pub kind : SubtableKind
-  pub coverage : Coverage
+  pub coverage : SubtableCoverage
   pub flags : ℕ
   pub table : List ℕ
 

@@ -18,7 +18,7 @@ use Rattle.glyph_lists.proofs.PartsLemmas.{length-map_range, map-map_range}
 use Rattle.glyph_lists.proofs.ScansLemmas.{length-part_scan}
 use Rattle.shaping_buffer.specs.State.{State}
 use Rattle.shaping_buffer.specs.ClusterStep.{any_order, both, both_place, range_end, scan, unsafe_to_break, unsafe_to_concat}
-use Rattle.ot_map.specs.declared.shape_plan.ShapePlan.{ShapePlan}
+use Rattle.ot_map.specs.declared.shape_plan.OtShapePlan.{OtShapePlan}
 use Rattle.ot_apply.specs.Masks.{is_digit, is_slash, digits_start, digits_end, mask_before, mask_behind, fraction_masked}
 use Rattle.ot_apply.specs.Masks.{with_fraction, fraction_at, slash_at, fractions_before, with_fractions}
 
@@ -61,7 +61,7 @@ pub ruleset digits = (
 
 -- ---- a fraction
 
-module _ (plan : ShapePlan) (slash : ℕ) (s : State) where
+module _ (plan : OtShapePlan) (slash : ℕ) (s : State) where
   pub fraction_at-no_numerator : digits_start s.input slash ≡ slash
       → fraction_at plan slash s ≡ unsafe_to_concat (Some slash) (Some (slash + 1)) s
   unfolding fraction_at
@@ -90,7 +90,7 @@ pub ruleset fractions = (fraction_at-no_numerator, fraction_at-no_denominator)
 
 -- ---- the slashes of a text
 
-module _ (plan : ShapePlan) (place : ℕ) (s : State) where
+module _ (plan : OtShapePlan) (place : ℕ) (s : State) where
   pub slash_at-yes : is_slash (get_or s.input place zero_glyph) ≡ true → slash_at plan place s ≡ fraction_at plan place s
   unfolding slash_at
   slash_at-yes is = cond-true _ _ _ is
@@ -110,7 +110,7 @@ module _ (plan : ShapePlan) (place : ℕ) (s : State) where
 
 pub ruleset slashes = (slash_at-yes, slash_at-no, slash_at-past)
 
-module _ (plan : ShapePlan) (s : State) where
+module _ (plan : OtShapePlan) (s : State) where
   abbrev ascii_bit : ℕ
   ascii_bit = bit_and s.scratch_flags HB_BUFFER_SCRATCH_FLAG_HAS_NON_ASCII
 
@@ -167,7 +167,7 @@ length-unsafe_to_break start end s =
 
 -- ---- masks of a fraction
 
-module _ (plan : ShapePlan) (direction : Direction) (start slash end : ℕ) (l : List hb_glyph_info_t) (before : start ≤ slash)
+module _ (plan : OtShapePlan) (direction : Direction) (start slash end : ℕ) (l : List hb_glyph_info_t) (before : start ≤ slash)
     (behind : slash < end) where
   abbrev first : List hb_glyph_info_t
   first = map_range (with_glyph_flags (mask_before plan direction)) l start slash

@@ -19,7 +19,7 @@ use Rattle.ot_map.specs.Masks.{mask_of, value_in}
 use Rattle.ot_map.specs.Plan.{IsWithTag}
 use Rattle.ot_map.specs.declared.plan.LayoutPlan.{LayoutPlan}
 use Rattle.ot_map.specs.declared.plan.PlannedFeature.{PlannedFeature}
-use Rattle.ot_map.specs.declared.shape_plan.ShapePlan.{ShapePlan}
+use Rattle.ot_map.specs.declared.shape_plan.OtShapePlan.{OtShapePlan}
 use Rattle.ot_plan.specs.declared.planning.TextPlan.{TextPlan}
 
 -- ---- fractions: digits, a slash, and digits (HarfBuzz, `hb_ot_shape_setup_masks_fraction`)
@@ -41,48 +41,48 @@ unfoldable pub digits_end : List hb_glyph_info_t → ℕ → ℕ
 digits_end l place = place + prefix_len is_digit (drop place l)
 
 -- the features of the digits before the slash and of those behind it: in a line that runs backward numerators stand behind it
-abbrev pub numerators : ShapePlan → ℕ
+abbrev pub numerators : OtShapePlan → ℕ
 numerators plan = bit_or plan.numr_mask plan.frac_mask
 
-abbrev pub denominators : ShapePlan → ℕ
+abbrev pub denominators : OtShapePlan → ℕ
 denominators plan = bit_or plan.frac_mask plan.dnom_mask
 
-abbrev pub mask_before : ShapePlan → Direction → ℕ
+abbrev pub mask_before : OtShapePlan → Direction → ℕ
 mask_before plan direction = if is_forward direction then numerators plan else denominators plan
 
-abbrev pub mask_behind : ShapePlan → Direction → ℕ
+abbrev pub mask_behind : OtShapePlan → Direction → ℕ
 mask_behind plan direction = if is_forward direction then denominators plan else numerators plan
 
 -- each part of a fraction from `start` to `end` has its features too
-unfoldable pub fraction_masked : ShapePlan → Direction → ℕ → ℕ → ℕ → List hb_glyph_info_t → List hb_glyph_info_t
+unfoldable pub fraction_masked : OtShapePlan → Direction → ℕ → ℕ → ℕ → List hb_glyph_info_t → List hb_glyph_info_t
 fraction_masked plan direction start slash end l =
     map_range (with_glyph_flags (mask_behind plan direction))
     (map_range (with_glyph_flags plan.frac_mask)
     (map_range (with_glyph_flags (mask_before plan direction)) l start slash) slash (slash + 1))
     (slash + 1) end
 
-unfoldable pub with_fraction : ShapePlan → ℕ → ℕ → ℕ → State → State
+unfoldable pub with_fraction : OtShapePlan → ℕ → ℕ → ℕ → State → State
 with_fraction plan start slash end s =
     record s { input = fraction_masked plan s.direction start slash end s.input }
 
 -- A slash without digits on both sides is unsafe to concatenate. With them it is a fraction, which is unsafe to break.
-unfoldable pub fraction_at : ShapePlan → ℕ → State → State
+unfoldable pub fraction_at : OtShapePlan → ℕ → State → State
 fraction_at plan slash s =
     if (digits_start s.input slash == slash) || (digits_end s.input (slash + 1) == slash + 1)
     then unsafe_to_concat (Some slash) (Some (slash + 1)) s
     else with_fraction plan (digits_start s.input slash) slash (digits_end s.input (slash + 1))
     (unsafe_to_break (Some (digits_start s.input slash)) (Some (digits_end s.input (slash + 1))) s)
 
-unfoldable pub slash_at : ShapePlan → ℕ → State → State
+unfoldable pub slash_at : OtShapePlan → ℕ → State → State
 slash_at plan place s = if is_slash (slice_index_or s.input place zero_glyph) then fraction_at plan place s else s
 
 -- the slashes before a place, one after the other
-abbrev pub fractions_before : ShapePlan → ℕ → State → State
+abbrev pub fractions_before : OtShapePlan → ℕ → State → State
 fractions_before plan zero s = s
 fractions_before plan (suc place) s = slash_at plan place (fractions_before plan place s)
 
 -- all slashes, where the text has characters past ASCII and the font makes fractions
-unfoldable pub with_fractions : ShapePlan → State → State
+unfoldable pub with_fractions : OtShapePlan → State → State
 with_fractions plan s =
     if not (bit_and s.scratch_flags HB_BUFFER_SCRATCH_FLAG_HAS_NON_ASCII == 0) && plan.has_frac
     then fractions_before plan (length s.input) s

@@ -9,7 +9,7 @@ ghost use Rattle.shaping_buffer.specs.ClusterStep as step;
 ghost use Rattle.shaping_buffer.specs.KeepsClusters.{KeepsClusters};
 
 use ot_characters::is_decimal_number;
-use ot_map::{LayoutPlan, PlannedFeature, ShapePlan};
+use ot_map::{LayoutPlan, OtShapePlan, PlannedFeature};
 use ot_plan::TextPlan;
 use rb_text::Feature;
 use shaping_buffer::{
@@ -98,7 +98,7 @@ fn set_bits(buffer: &mut hb_buffer_t, planned: &PlannedFeature, feature: &Featur
 
 /// Sets the masks of fractions, if the font makes them. Their slash is past ASCII.
 #[tactic(auto, using(crate::proofs::FractionLemmas::texts, shaping_buffer::proofs::ClosedKeepsLemmas::kept))]
-fn set_fractions(buffer: &mut hb_buffer_t, plan: &ShapePlan)
+fn set_fractions(buffer: &mut hb_buffer_t, plan: &OtShapePlan)
     requires { buffer.old.have_output ≡ false }
     ensures is { buffer.new ≡ steps.with_fractions plan.now buffer.old }
     ensures closed { buffer.new.have_output ≡ false }
@@ -111,7 +111,7 @@ fn set_fractions(buffer: &mut hb_buffer_t, plan: &ShapePlan)
 
 /// Sets the masks of each fraction: digits, a slash, and digits.
 #[tactic(auto, using(shaping_buffer::proofs::ClosedKeepsLemmas::kept))]
-fn set_each_fraction(buffer: &mut hb_buffer_t, plan: &ShapePlan)
+fn set_each_fraction(buffer: &mut hb_buffer_t, plan: &OtShapePlan)
     requires { buffer.old.have_output ≡ false }
     ensures is { buffer.new ≡ steps.fractions_before plan.now (length buffer.old.input) buffer.old }
     ensures closed { buffer.new.have_output ≡ false }
@@ -125,7 +125,7 @@ fn set_each_fraction(buffer: &mut hb_buffer_t, plan: &ShapePlan)
 
 /// Sets the masks of a fraction, if its slash is at a place.
 #[tactic(auto, using(crate::proofs::FractionLemmas::slashes, shaping_buffer::proofs::ClosedKeepsLemmas::kept))]
-fn set_if_slash(buffer: &mut hb_buffer_t, place: usize, plan: &ShapePlan)
+fn set_if_slash(buffer: &mut hb_buffer_t, place: usize, plan: &OtShapePlan)
     requires { buffer.old.have_output ≡ false }
     ensures is { buffer.new ≡ steps.slash_at plan.now place buffer.old }
     ensures closed { buffer.new.have_output ≡ false }
@@ -146,7 +146,7 @@ fn is_slash(info: &hb_glyph_info_t) -> bool
 
 /// Sets the masks of the fraction whose slash is at a place, if it has digits on both sides. Else the slash is unsafe to concatenate.
 #[tactic(auto, using(crate::proofs::FractionLemmas::fractions, shaping_buffer::proofs::ClosedKeepsLemmas::kept))]
-fn set_fraction(buffer: &mut hb_buffer_t, slash: usize, plan: &ShapePlan)
+fn set_fraction(buffer: &mut hb_buffer_t, slash: usize, plan: &OtShapePlan)
     requires closed { buffer.old.have_output ≡ false }
     requires there { slash < length buffer.old.input }
     ensures is { buffer.new ≡ steps.fraction_at plan.now slash buffer.old }
@@ -179,7 +179,13 @@ fn keep_fraction(buffer: &mut hb_buffer_t, start: usize, end: usize)
 }
 
 /// Adds the masks of a fraction to its glyphs.
-fn add_fraction(buffer: &mut hb_buffer_t, start: usize, slash: usize, end: usize, plan: &ShapePlan)
+fn add_fraction(
+    buffer: &mut hb_buffer_t,
+    start: usize,
+    slash: usize,
+    end: usize,
+    plan: &OtShapePlan,
+)
     requires closed { buffer.old.have_output ≡ false }
     requires before { start ≤ slash }
     requires behind { slash < end }
@@ -198,7 +204,7 @@ fn add_fraction_masks(
     start: usize,
     slash: usize,
     end: usize,
-    plan: &ShapePlan,
+    plan: &OtShapePlan,
     direction: Direction,
 )
     requires before { start ≤ slash }
@@ -212,7 +218,7 @@ fn add_fraction_masks(
 }
 
 /// The mask of the digits before a slash: numerators in a line that runs forward.
-fn mask_before(plan: &ShapePlan, direction: Direction) -> u32
+fn mask_before(plan: &OtShapePlan, direction: Direction) -> u32
     ensures { result ≡ steps.mask_before plan.now direction }
 {
     if direction.is_forward() {
@@ -223,7 +229,7 @@ fn mask_before(plan: &ShapePlan, direction: Direction) -> u32
 }
 
 /// The mask of the digits behind a slash: denominators in a line that runs forward.
-fn mask_behind(plan: &ShapePlan, direction: Direction) -> u32
+fn mask_behind(plan: &OtShapePlan, direction: Direction) -> u32
     ensures { result ≡ steps.mask_behind plan.now direction }
 {
     if direction.is_forward() {

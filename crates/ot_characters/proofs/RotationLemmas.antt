@@ -11,7 +11,7 @@ use Rattle.rb_glyph.specs.Characters.{vertical_forms}
 use Rattle.rb_glyph.specs.Rows.{value_of}
 use Rattle.rb_glyph.specs.declared.info.hb_glyph_info_t.{hb_glyph_info_t}
 use Rattle.glyph_lists.specs.Marks.{with_glyph_flags}
-use Rattle.ot_map.specs.declared.shape_plan.ShapePlan.{ShapePlan}
+use Rattle.ot_map.specs.declared.shape_plan.OtShapePlan.{OtShapePlan}
 use Rattle.unicode_tables.specs.Mirrors.{mirror_images}
 use Rattle.ot_characters.specs.Rotation.{form_in, may_be_mirrored, mirror_image, vertical_form, if_there, in_form}
 use Rattle.ot_characters.specs.Rotation.{mirrored, upright, turned, raised, rotated}
@@ -96,7 +96,7 @@ map-mirrored_features has rows rtlm (g ∷ l) none =
     ap (λ (h : hb_glyph_info_t). h ∷ map (mirrored has rows rtlm) l) (mirrored-never has rows rtlm g parts.0)
     ∙ ap (λ (k : List hb_glyph_info_t). with_glyph_flags rtlm g ∷ k) (map-mirrored_features has rows rtlm l parts.1)
 
-module _ (has : ℕ → Bool) (plan : ShapePlan) (direction : Direction) (l : List hb_glyph_info_t) where
+module _ (has : ℕ → Bool) (plan : OtShapePlan) (direction : Direction) (l : List hb_glyph_info_t) where
   pub turned-forward : is_forward direction ≡ true → map (turned has plan direction) l ≡ l
   unfolding turned
   turned-forward forward =
@@ -169,7 +169,7 @@ upright-cluster : (has : ℕ → Bool) (g : hb_glyph_info_t) → (upright has g)
 unfolding upright
 upright-cluster has g = in_form-cluster (if_there has (vertical_form g)) g g refl
 
-module _ (has : ℕ → Bool) (plan : ShapePlan) (direction : Direction) (g : hb_glyph_info_t) where
+module _ (has : ℕ → Bool) (plan : OtShapePlan) (direction : Direction) (g : hb_glyph_info_t) where
   turned-cluster : (turned has plan direction g).cluster ≡ g.cluster
   unfolding turned
   turned-cluster =
@@ -181,7 +181,7 @@ module _ (has : ℕ → Bool) (plan : ShapePlan) (direction : Direction) (g : hb
   raised-cluster =
       either-cluster (is_horizontal direction || plan.has_vert) g g (upright has g) refl (upright-cluster has g)
 
-pub rotated-cluster : (has : ℕ → Bool) (plan : ShapePlan) (direction : Direction) (g : hb_glyph_info_t)
+pub rotated-cluster : (has : ℕ → Bool) (plan : OtShapePlan) (direction : Direction) (g : hb_glyph_info_t)
     → (rotated has plan direction g).cluster ≡ g.cluster
 unfolding rotated
 rotated-cluster has plan direction g =

@@ -9,7 +9,7 @@ use Rattle.rb_glyph.specs.declared.info.hb_glyph_info_t.{hb_glyph_info_t}
 use Rattle.glyph_lists.specs.Marks.{with_glyph_flags}
 use Rattle.script_items.specs.Marks.{category, is_mark}
 use Rattle.script_items.specs.Spaces.{is_space}
-use Rattle.ot_map.specs.declared.shape_plan.ShapePlan.{ShapePlan}
+use Rattle.ot_map.specs.declared.shape_plan.OtShapePlan.{OtShapePlan}
 use Rattle.unicode_tables.specs.Mirrors.{mirror_images}
 use Rattle.ot_characters.specs.Numbers.{is_letter}
 
@@ -60,13 +60,13 @@ upright has g = in_form (if_there has (vertical_form g)) g g
 -- ---- and in a line
 
 -- mirrored where the line runs backward
-unfoldable pub turned : (ℕ → Bool) → ShapePlan → Direction → hb_glyph_info_t → hb_glyph_info_t
+unfoldable pub turned : (ℕ → Bool) → OtShapePlan → Direction → hb_glyph_info_t → hb_glyph_info_t
 turned has plan direction g = if is_forward direction then g else mirrored has mirror_images plan.rtlm_mask g
 
 -- upright where the line is vertical, unless the font's own features make vertical forms
-unfoldable pub raised : (ℕ → Bool) → ShapePlan → Direction → hb_glyph_info_t → hb_glyph_info_t
+unfoldable pub raised : (ℕ → Bool) → OtShapePlan → Direction → hb_glyph_info_t → hb_glyph_info_t
 raised has plan direction g = if is_horizontal direction || plan.has_vert then g else upright has g
 
 -- both
-unfoldable pub rotated : (ℕ → Bool) → ShapePlan → Direction → hb_glyph_info_t → hb_glyph_info_t
+unfoldable pub rotated : (ℕ → Bool) → OtShapePlan → Direction → hb_glyph_info_t → hb_glyph_info_t
 rotated has plan direction g = raised has plan direction (turned has plan direction g)

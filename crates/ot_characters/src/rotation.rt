@@ -8,7 +8,7 @@ ghost use Rattle.ot_characters.specs.Rotation as rotation;
 
 use crate::glyph_info::{is_decimal_number, is_letter};
 use font_functions::FontFunctions;
-use ot_map::ShapePlan;
+use ot_map::OtShapePlan;
 use script_items::glyph_info::is_unicode_space;
 use script_items::item::is_unicode_mark;
 use shaping_buffer::{CharExt, Direction, Mirrors, hb_buffer_t, hb_glyph_info_t};
@@ -20,7 +20,7 @@ use unicode_tables::mirrors;
 pub fn rotate_characters<F: FontFunctions>(
     buffer: &mut hb_buffer_t,
     font: &F,
-    plan: &ShapePlan,
+    plan: &OtShapePlan,
     direction: Direction,
 )
     requires { buffer.old.have_output ≡ false }
@@ -37,7 +37,7 @@ pub fn rotate_characters<F: FontFunctions>(
 fn rotate_all<F: FontFunctions>(
     infos: &mut [hb_glyph_info_t],
     font: &F,
-    plan: &ShapePlan,
+    plan: &OtShapePlan,
     direction: Direction,
 )
     ensures { infos.new ≡ map (rotation.rotated (F.has font.now) plan.now direction) infos.old }
@@ -51,7 +51,7 @@ fn rotate_all<F: FontFunctions>(
 fn turn_all<F: FontFunctions>(
     infos: &mut [hb_glyph_info_t],
     font: &F,
-    plan: &ShapePlan,
+    plan: &OtShapePlan,
     direction: Direction,
 )
     ensures { infos.new ≡ map (rotation.turned (F.has font.now) plan.now direction) infos.old }
@@ -158,7 +158,7 @@ fn mirror_image(info: &hb_glyph_info_t, mirrors: &Mirrors) -> Option<char>
 fn raise_all<F: FontFunctions>(
     infos: &mut [hb_glyph_info_t],
     font: &F,
-    plan: &ShapePlan,
+    plan: &OtShapePlan,
     direction: Direction,
 )
     ensures { infos.new ≡ map (rotation.raised (F.has font.now) plan.now direction) infos.old }

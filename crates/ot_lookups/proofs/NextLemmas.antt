@@ -7,7 +7,7 @@ use Rattle.font_tables.specs.declared.coverage.Coverage.{Coverage}
 use Rattle.std.specs.Prelude.{IfSome, is_some}
 use Rattle.ot_lookups.specs.Forms.{is_chained_form, is_chained_type, is_covered_form}
 use Rattle.ot_lookups.specs.NextAsked.{IsNextAt, IsNextOf, lookahead_number, backtrack_number, input_number}
-use Rattle.ot_lookups.specs.declared.subtable.Form.{Form}
+use Rattle.ot_lookups.specs.declared.subtable.SubtableFormat.{SubtableFormat}
 use Rattle.ot_lookups.specs.declared.subtable.NextAsked.{NextAsked}
 use Rattle.ot_lookups.specs.declared.subtable.Subtable.{Subtable}
 
@@ -85,7 +85,7 @@ pub next_at_place : (at first b i m x y n : ℕ) → at ≡ min (first + (x + y)
 next_at_place at first b i m x y n is less short same that least = omega (arith, is, less, short, same, that, least)
 
 -- what a new subtable asks for
-pub next_of_asked : (cs after : List Coverage) (first : ℕ) (chained : Bool) (table : List ℕ) (form : Form) (asked : Option NextAsked)
+pub next_of_asked : (cs after : List Coverage) (first : ℕ) (chained : Bool) (table : List ℕ) (form : SubtableFormat) (asked : Option NextAsked)
     → after ≡ cs → (is_some asked ≡ true → is_covered_form form ≡ true)
     → (is_covered_form form ≡ true → chained ≡ is_chained_form form)
     → IfSome asked (IsNextAt cs first (is_chained_form form) table)

@@ -7,7 +7,7 @@ ghost use Rattle.glyph_digests.specs.FirstGlyphs.{HasMoreFirst};
 ghost use Rattle.ot_lookups.specs.Forms.{is_chained_form, is_covered_form};
 ghost use Rattle.ot_lookups.specs.NextAsked.{lookahead_number, backtrack_number, input_number};
 
-use crate::subtable::{Form, Subtable};
+use crate::subtable::{Subtable, SubtableFormat};
 use font_tables::bytes::u16_at;
 use font_tables::class_definition::ClassDefinition;
 use glyph_digests::digest::Digest;
@@ -25,15 +25,15 @@ pub(crate) fn quick_classes(table: &[u8]) -> ClassDefinition<'_> {
 }
 
 /// How many coverages a context by coverages has before the cursor, for its input and after it.
-pub(crate) fn coverage_numbers(form: Form, table: &[u8]) -> Option<(u16, u16, u16)>
+pub(crate) fn coverage_numbers(form: SubtableFormat, table: &[u8]) -> Option<(u16, u16, u16)>
     ensures covered { is_some result ≡ true → is_covered_form form ≡ true }
     ensures backtrack { IfSome result (λ numbers. numbers.0 ≡ backtrack_number (is_chained_form form) table.now) }
     ensures input { IfSome result (λ numbers. numbers.1 ≡ input_number (is_chained_form form) table.now) }
     ensures lookahead { IfSome result (λ numbers. numbers.2 ≡ lookahead_number (is_chained_form form) table.now) }
 {
     match form {
-        Form::Coverages => Some((0, u16_at(table, 2)?, 0)),
-        Form::ChainedCoverages => {
+        SubtableFormat::Coverages => Some((0, u16_at(table, 2)?, 0)),
+        SubtableFormat::ChainedCoverages => {
             let backtrack = u16_at(table, 2)?;
             let input_at = 4 + 2 * usize::from(backtrack);
             let input = u16_at(table, input_at)?;

@@ -9,7 +9,7 @@ use Rattle.ot_map.specs.Masks.{mask_of, value_in}
 use Rattle.ot_map.specs.Plan.{IsReadOf}
 use Rattle.ot_map.specs.declared.plan.LayoutPlan.{LayoutPlan}
 use Rattle.ot_map.specs.declared.shape_plan.KernLayout.{KernLayout}
-use Rattle.ot_map.specs.declared.shape_plan.ShapePlan.{ShapePlan}
+use Rattle.ot_map.specs.declared.shape_plan.OtShapePlan.{OtShapePlan}
 use Rattle.script_shapers.specs.Shapers.{has_fallback, wanted_script, width_of}
 use Rattle.script_shapers.specs.declared.shaper.ScriptShaper.{ScriptShaper}
 use Rattle.script_shapers.specs.declared.shaper.ZeroWidthMarks.{ZeroWidthMarks}
@@ -36,7 +36,7 @@ abbrev pub kern_tag : Direction → ℕ
 kern_tag direction = if is_horizontal direction then tag_of (codes "kern") else tag_of (codes "vkrn")
 
 -- the features that are asked of while a text is shaped
-pub record HasMasks (direction : Direction) (shape : ShapePlan) : Type 0 where
+pub record HasMasks (direction : Direction) (shape : OtShapePlan) : Type 0 where
   pub fraction : IsOneMask shape.layout (tag_of (codes "frac")) shape.frac_mask
   pub numerator : IsOneMask shape.layout (tag_of (codes "numr")) shape.numr_mask
   pub denominator : IsOneMask shape.layout (tag_of (codes "dnom")) shape.dnom_mask
@@ -71,7 +71,7 @@ is_wanted (Some wanted) script = wanted == script
 
 -- Who positions glyphs, of a font with this table `GPOS` and this kerning: the lookups of `GPOS`, the table `kern` where these have no
 -- feature of kerning, and a fallback where neither does.
-pub record IsPositionedBy (gpos : List ℕ) (kern : KernLayout) (direction : Direction) (shaper : ScriptShaper) (shape : ShapePlan) : Type 0 where
+pub record IsPositionedBy (gpos : List ℕ) (kern : KernLayout) (direction : Direction) (shaper : ScriptShaper) (shape : OtShapePlan) : Type 0 where
   pub by_lookups : shape.apply_gpos
       ≡ is_wanted (wanted_script shaper) shape.layout.gpos_script.0 && not (nat_eq (length gpos) 0)
   pub by_table : IsReadOf shape.layout.features.items (kern_tag direction)
@@ -87,12 +87,12 @@ loses_width width.Early = true
 loses_width width.Late = true
 
 -- no lookup and no subtable places marks
-abbrev pub are_unplaced : KernLayout → ShapePlan → Bool
+abbrev pub are_unplaced : KernLayout → OtShapePlan → Bool
 are_unplaced kern shape = not shape.apply_gpos && not (shape.apply_kern && kern.is_cross_stream)
 
 -- What becomes of marks, by the shaper of the script. That Apple's table `morx` substitutes, and another shaper is in its place, changes
 -- one thing: marks are not moved back by the width that they lose.
-pub record AreMarksOf (kern : KernLayout) (own : ScriptShaper) (morx : Bool) (shape : ShapePlan) : Type 0 where
+pub record AreMarksOf (kern : KernLayout) (own : ScriptShaper) (morx : Bool) (shape : OtShapePlan) : Type 0 where
   pub attached : IsThere shape.layout (tag_of (codes "mark")) shape.has_gpos_mark
   -- state machines of `kern` ask for the width
   pub zeroed : shape.zero_marks ≡ loses_width (width_of own) && not (shape.apply_kern && kern.has_machine)

@@ -9,7 +9,7 @@ ghost use Rattle.ot_plan.specs.Decisions.{is_wanted, kern_of, kern_tag, loses_wi
 
 use font_face::Face;
 use ot_gpos_tables::kern_table::KernTable;
-use ot_map::{FontLayout, KernLayout, LayoutPlan, ShapePlan};
+use ot_map::{FontLayout, KernLayout, LayoutPlan, OtShapePlan};
 use rb_common::{Direction, Tag};
 use script_shapers::{ScriptShaper, ZeroWidthMarks};
 
@@ -33,7 +33,7 @@ pub(crate) fn decided(
     font: &FontLayout,
     direction: Direction,
     chosen: &ChosenShaper,
-) -> ShapePlan
+) -> OtShapePlan
     ensures layout { result.layout ≡ layout }
     ensures masks { HasMasks direction result }
     ensures positions { IsPositionedBy font.now.gpos.now font.now.kern direction chosen.now.shaper result }
@@ -50,7 +50,7 @@ pub(crate) fn decided(
     let apply_gpos = applies_gpos(font.gpos, chosen.shaper, layout.gpos_script);
     let apply_kern = applies_kern(&layout, direction, kern.is_there, apply_gpos);
     let are_unplaced = !apply_gpos && !(apply_kern && kern.is_cross_stream);
-    ShapePlan {
+    OtShapePlan {
         frac_mask,
         numr_mask,
         dnom_mask,

@@ -18,7 +18,7 @@ use aat_tables::FeatureNames;
 use font_face::Face;
 use font_functions::FontFunctions;
 use font_variations::substitutions_of;
-use ot_map::{FeatureFlags, FontLayout, PlanBuilder, ShapePlan, TextProperties};
+use ot_map::{FeatureFlags, FontLayout, OtShapePlan, PlanBuilder, TextProperties};
 use ot_tags::LanguageTags;
 use rb_common::{Direction, Script, Tag};
 use rb_text::tags::tags_from_script_and_language;
@@ -35,7 +35,7 @@ use std::alloc::AllocError;
 #[derive(Drop)]
 pub struct TextPlan {
     /// Features, lookups and positions.
-    pub shape: ShapePlan,
+    pub shape: OtShapePlan,
     /// What the shaper of the script does.
     pub script: ScriptPlan,
     /// What it does with syllables.
@@ -149,7 +149,7 @@ fn plan_of<F: FontFunctions>(
 {
     let tables = layout_of(face);
     let substitutes = substitutes_by_morx(face, segment.direction);
-    let mut builder = ShapePlan::begin(face.alloc, &tables, text)?;
+    let mut builder = OtShapePlan::begin(face.alloc, &tables, text)?;
     let chosen = add_features(&mut builder, segment, features, substitutes)?;
     let layout = builder.compile(face.alloc)?;
     let shape = decided(layout, &tables, segment.direction, &chosen);
@@ -264,7 +264,7 @@ fn add_features(
     };
     builder.enable_feature(Tag::from_bytes(b"trak"), with_fallback)?;
     collect_features(chosen.shaper, builder, segment.script)?;
-    ShapePlan::add_common_features(builder, segment.direction, features)?;
+    OtShapePlan::add_common_features(builder, segment.direction, features)?;
     override_features(chosen.shaper, builder)?;
     Ok(chosen)
 }

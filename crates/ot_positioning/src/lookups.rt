@@ -13,7 +13,7 @@ use ot_gpos_tables::contour_points::{ContourPoint, ContourPoints};
 use ot_gpos_tables::instance::Instance;
 use ot_gpos_tables::kern_table::KernTable;
 use ot_layout::{LookupOptions, Search};
-use ot_map::{LayoutPlan, PlannedLookup, ShapePlan};
+use ot_map::{LayoutPlan, OtShapePlan, PlannedLookup};
 use ot_plan::{Step, Watch, budget_of, options_of};
 use rb_common::GlyphId;
 use shaping_buffer::hb_buffer_t;
@@ -50,7 +50,7 @@ pub(crate) fn position_by_lookups<F: FontFunctions, W: Watch>(
     buffer: &mut hb_buffer_t,
     face: &Face,
     font: &F,
-    plan: &ShapePlan,
+    plan: &OtShapePlan,
     watch: &mut W,
 ) -> Result<(), AllocError>
     requires closed { buffer.old.have_output ≡ false }
@@ -70,7 +70,7 @@ fn position_by_gpos<F: FontFunctions, W: Watch>(
     buffer: &mut hb_buffer_t,
     face: &Face,
     font: &F,
-    plan: &ShapePlan,
+    plan: &OtShapePlan,
     watch: &mut W,
 ) -> Result<(), AllocError>
     requires closed { buffer.old.have_output ≡ false }
@@ -90,7 +90,7 @@ fn position_by_gpos<F: FontFunctions, W: Watch>(
 fn kern_by_table<W: Watch>(
     buffer: &mut hb_buffer_t,
     face: &Face,
-    plan: &ShapePlan,
+    plan: &OtShapePlan,
     watch: &mut W,
 ) -> Result<(), AllocError>
     requires closed { buffer.old.have_output ≡ false }

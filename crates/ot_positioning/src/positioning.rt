@@ -8,7 +8,7 @@ use crate::lookups::position_by_lookups;
 use font_face::Face;
 use font_functions::FontFunctions;
 use ot_attachments::position_finish_offsets;
-use ot_map::ShapePlan;
+use ot_map::OtShapePlan;
 use ot_plan::{Step, TextPlan, Watch};
 use ot_positions::{
     position_glyphs, position_marks, track, zero_mark_widths, zero_width_default_ignorables,
@@ -54,7 +54,7 @@ fn zeroes_marks(plan: &TextPlan, step: ZeroWidthMarks) -> bool
 }
 
 /// Whether a mark that loses its width is moved back by it.
-fn adjusts_marks(buffer: &hb_buffer_t, plan: &ShapePlan) -> bool {
+fn adjusts_marks(buffer: &hb_buffer_t, plan: &OtShapePlan) -> bool {
     plan.adjust_mark_positioning_when_zeroing && buffer.direction.is_forward()
 }
 
@@ -64,7 +64,7 @@ fn finish_positions<F: FontFunctions>(
     buffer: &mut hb_buffer_t,
     face: &Face,
     font: &F,
-    plan: &ShapePlan,
+    plan: &OtShapePlan,
     direction: Direction,
 ) -> Result<(), AllocError>
     requires closed { buffer.old.have_output ≡ false }

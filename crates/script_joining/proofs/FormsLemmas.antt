@@ -5,7 +5,7 @@ use Rattle.std.proofs.lemmas.List.{take_more_set, drop-set-lt, drop_more, append
 use Rattle.glyph_lists.specs.Clusters.{clusters}
 use Rattle.rb_glyph.specs.declared.info.hb_glyph_info_t.{hb_glyph_info_t}
 use Rattle.script_joining.specs.declared.joining.kind.JoiningType.{JoiningType}
-use Rattle.script_joining.specs.declared.joining.form.Form.{Form}
+use Rattle.script_joining.specs.declared.joining.form.ArabicAction.{ArabicAction}
 use Rattle.script_items.specs.Item.{with_shaper_byte}
 use Rattle.script_joining.specs.Joining.{with_forms, first_letter, kind, nearest, form_between, number_of_form}
 
@@ -38,7 +38,7 @@ module _ (before beyond : JoiningType) (l : List hb_glyph_info_t) (n : ℕ) wher
       ∙ ap (λ xs. take n l ++ with_forms before xs beyond) (sym (drop_more l n d h))
 
   -- the same, as the loop finds the next type, the form and the number of that
-  pub formed_step : (own next : JoiningType) (form : Form) (byte : ℕ) (x d : hb_glyph_info_t) → n < length l
+  pub formed_step : (own next : JoiningType) (form : ArabicAction) (byte : ℕ) (x d : hb_glyph_info_t) → n < length l
       → own ≡ kind (get_or l n d) → form ≡ form_between before own (first_letter (drop (n + 1) l) beyond)
       → byte ≡ number_of_form form → x ≡ with_shaper_byte byte (get_or l n d) → next ≡ nearest own before
       → formed next (n + 1) (set l n x) beyond ≡ formed before n l beyond

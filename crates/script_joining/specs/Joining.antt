@@ -4,9 +4,9 @@ use Rattle.rb_glyph.specs.declared.info.hb_glyph_info_t.{hb_glyph_info_t}
 use Rattle.script_joining.specs.declared.joining.kind.JoiningType.{JoiningType}
 use Rattle.script_joining.specs.declared.joining.kind.JoiningType.TheVariants.{NonJoining, Left, Right, Dual}
 use Rattle.script_joining.specs.declared.joining.kind.JoiningType.TheVariants.{Alaph, DalathRish, Transparent}
-use Rattle.script_joining.specs.declared.joining.form.Form.{Form}
-use Rattle.script_joining.specs.declared.joining.form.Form.TheVariants.{Unformed, Isol, Fina, Fin2, Fin3}
-use Rattle.script_joining.specs.declared.joining.form.Form.TheVariants.{Medi, Med2, Init, StchFixed, StchRepeating}
+use Rattle.script_joining.specs.declared.joining.form.ArabicAction.{ArabicAction}
+use Rattle.script_joining.specs.declared.joining.form.ArabicAction.TheVariants.{Unformed, Isol, Fina, Fin2, Fin3}
+use Rattle.script_joining.specs.declared.joining.form.ArabicAction.TheVariants.{Medi, Med2, Init, StchFixed, StchRepeating}
 use Rattle.script_items.specs.Item.{shaper_byte, with_shaper_byte}
 
 -- whether a letter joins to the next one
@@ -33,24 +33,24 @@ nearest Transparent beyond = beyond
 nearest item beyond = item
 
 -- the form by the sides on which a letter is joined
-abbrev pub form_of_sides : Bool → Bool → Form
+abbrev pub form_of_sides : Bool → Bool → ArabicAction
 form_of_sides before after =
     if before then (if after then Medi else Fina) else if after then Init else Isol
 
 -- the form of an alaph that ends a word and is not joined
-abbrev pub last_alaph : JoiningType → Form
+abbrev pub last_alaph : JoiningType → ArabicAction
 last_alaph DalathRish = Fin3
 last_alaph Right = Fin2
 last_alaph Alaph = Fin2
 last_alaph _ = Isol
 
 -- the form of an alaph: what is before it, and whether its word goes on
-abbrev pub form_of_alaph : JoiningType → Bool → Form
+abbrev pub form_of_alaph : JoiningType → Bool → ArabicAction
 form_of_alaph before goes_on =
     if joins_next before then (if goes_on then Med2 else Fina) else if goes_on then Isol else last_alaph before
 
 -- the form of an item between the nearest letters before it and after it
-abbrev pub form_between : JoiningType → JoiningType → JoiningType → Form
+abbrev pub form_between : JoiningType → JoiningType → JoiningType → ArabicAction
 form_between before NonJoining after = Unformed
 form_between before Transparent after = Unformed
 form_between before Alaph after = form_of_alaph before (joins_previous after)
@@ -75,7 +75,7 @@ number_of_type DalathRish = 5
 number_of_type Transparent = 6
 
 -- the number of a form
-abbrev pub number_of_form : Form → ℕ
+abbrev pub number_of_form : ArabicAction → ℕ
 number_of_form Unformed = 0
 number_of_form Isol = 1
 number_of_form Fina = 2

@@ -3,7 +3,7 @@
 #![tactic(auto)]
 
 pub use arabic::fallback::FallbackLookups;
-pub use joining::form::Form;
+pub use joining::form::ArabicAction;
 pub use joining::kind::{JoiningType, joining_type};
 
 pub mod arabic;

@@ -7,7 +7,7 @@ use crate::arabic::lookup_bytes::{LigatureRow, ligature_lookup, single_lookup, t
 use crate::arabic::presentation_rows::{
     LETTERS, LIGATURES_OF_MARKS, LIGATURES_OF_THREE, LIGATURES_OF_TWO,
 };
-use crate::joining::form::Form;
+use crate::joining::form::ArabicAction;
 use script_items::font::FontGlyphs;
 use std::alloc::{AllocError, Global};
 
@@ -15,7 +15,12 @@ use std::alloc::{AllocError, Global};
 const IGNORE_MARKS: u16 = 8;
 
 /// The forms of letters, in the order of their lookups and of the columns of the rows.
-const FORMS: [Form; 4] = [Form::Init, Form::Medi, Form::Fina, Form::Isol];
+const FORMS: [ArabicAction; 4] = [
+    ArabicAction::Init,
+    ArabicAction::Medi,
+    ArabicAction::Fina,
+    ArabicAction::Isol,
+];
 
 /// Lookups that are made from the characters of a font.
 #[derive(Drop)]

@@ -9,7 +9,7 @@ use crate::joining::kind::JoiningType::*;
 /// How a letter is written by its neighbours, each form by the feature of OpenType that has it; and how a piece of a mark that is
 /// stretched over a word is.
 #[derive(Clone, Copy, PartialEq, Eq)]
-pub enum Form {
+pub enum ArabicAction {
     /// It is no letter that joins.
     Unformed,
     /// Joined on no side: `isol`.
@@ -32,9 +32,9 @@ pub enum Form {
     StchRepeating,
 }
 
-use Form::*;
+use ArabicAction::*;
 
-impl Form {
+impl ArabicAction {
     /// The number under which an item keeps the form.
     pub(crate) fn number(self) -> u8
         ensures { result ≡ number_of_form self }
@@ -56,7 +56,11 @@ impl Form {
 
 /// The form of a letter of the type `own`, where `before` and `after` are the types of the nearest letters that are not
 /// transparent.
-pub(crate) fn form_between(before: JoiningType, own: JoiningType, after: JoiningType) -> Form
+pub(crate) fn form_between(
+    before: JoiningType,
+    own: JoiningType,
+    after: JoiningType,
+) -> ArabicAction
     ensures { result ≡ form_between before own after }
 {
     match own {
@@ -70,7 +74,7 @@ pub(crate) fn form_between(before: JoiningType, own: JoiningType, after: Joining
 }
 
 /// The form of a letter by the sides on which it is joined.
-fn form_of_sides(before: bool, after: bool) -> Form
+fn form_of_sides(before: bool, after: bool) -> ArabicAction
     ensures { result ≡ form_of_sides before after }
 {
     match (before, after) {
@@ -82,7 +86,7 @@ fn form_of_sides(before: bool, after: bool) -> Form
 }
 
 /// The form of an alaph: by the letter before it, and by whether its word goes on.
-fn form_of_alaph(before: JoiningType, goes_on: bool) -> Form
+fn form_of_alaph(before: JoiningType, goes_on: bool) -> ArabicAction
     ensures { result ≡ form_of_alaph before goes_on }
 {
     match (before.joins_next(), goes_on) {
@@ -94,7 +98,7 @@ fn form_of_alaph(before: JoiningType, goes_on: bool) -> Form
 }
 
 /// The form of an alaph that ends a word and is not joined.
-fn last_alaph(before: JoiningType) -> Form
+fn last_alaph(before: JoiningType) -> ArabicAction
     ensures { result ≡ last_alaph before }
 {
     match before {

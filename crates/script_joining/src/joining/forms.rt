@@ -5,7 +5,7 @@ ghost use Rattle.glyph_lists.specs.Clusters.{clusters};
 ghost use Rattle.script_items.specs.Item.{with_shaper_byte};
 ghost use Rattle.script_joining.specs.Joining.{with_forms, first_letter, kind, form_between, number_of_type};
 
-use crate::joining::form::{Form, form_between};
+use crate::joining::form::{ArabicAction, form_between};
 use crate::joining::kind::JoiningType::*;
 use crate::joining::kind::{JoiningType, joining_type};
 use rb_glyph::hb_glyph_info_t;
@@ -63,7 +63,7 @@ fn form_at(
     before: JoiningType,
     own: JoiningType,
     beyond: JoiningType,
-) -> Form
+) -> ArabicAction
     requires { place < length infos.now }
     ensures { result ≡ form_between before own (first_letter (drop (place + 1) infos.now) beyond) }
 {

@@ -3,7 +3,7 @@ use Rattle.ot_map.specs.Chosen.{IsChosenOf}
 use Rattle.ot_map.specs.CommonFeatures.{first_features}
 use Rattle.ot_map.specs.declared.builder.ChosenTable.{ChosenTable}
 use Rattle.ot_map.proofs.AskedLemmas.{collected-first}
-use Rattle.ot_map.proofs.shape_plan.ShapePlan.begin.Goals as goal
+use Rattle.ot_map.proofs.shape_plan.OtShapePlan.begin.Goals as goal
 
 pub returns-clause-gsub : goal.returns-clause-gsub
 returns-clause-gsub c =
