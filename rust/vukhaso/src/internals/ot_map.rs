@@ -17,5 +17,5 @@ pub mod tables;
 pub use builder::PlanBuilder;
 pub use plan::{LayoutPlan, Pause, PlannedFeature, PlannedLookup, Stage};
 pub use request::{FeatureFlags, FeatureRequest};
-pub use shape_plan::{FontLayout, KernLayout, ShapePlan, TextProperties};
+pub use shape_plan::{FontLayout, KernLayout, OtShapePlan, TextProperties};
 pub use tables::LayoutTable;

@@ -4,7 +4,7 @@
 //! their features, marks and stretched signs, as HarfBuzz's `hb-ot-shaper-arabic.cc` has them.
 
 pub use arabic::fallback::FallbackLookups;
-pub use joining::form::Form;
+pub use joining::form::ArabicAction;
 pub use joining::kind::{JoiningType, joining_type};
 
 pub mod arabic;

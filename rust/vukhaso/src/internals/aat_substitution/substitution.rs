@@ -8,7 +8,7 @@ use crate::aat_substitution::noncontextual::replace_all;
 use crate::aat_substitution::setting::{Reach, Setting};
 use crate::aat_substitution::work::Work;
 use crate::aat_substitution::writing::fail;
-use crate::aat_tables::metamorphosis::Coverage;
+use crate::aat_tables::metamorphosis::SubtableCoverage;
 use crate::aat_tables::{Lookup, Metamorphosis, StateTable, Subtable};
 use crate::buffer::{Direction, hb_buffer_t};
 use crate::font_tables::gdef::Gdef;
@@ -104,13 +104,13 @@ fn apply_chain(
 }
 
 /// Whether a subtable is for lines that run in a direction.
-fn is_for(coverage: Coverage, direction: Direction) -> bool {
+fn is_for(coverage: SubtableCoverage, direction: Direction) -> bool {
     coverage.all_directions || coverage.is_vertical == direction.is_vertical()
 }
 
 /// Whether a subtable goes over the glyphs from the last one on: they stand in the order of the
 /// characters.
-fn is_reversed(coverage: Coverage, direction: Direction) -> bool {
+fn is_reversed(coverage: SubtableCoverage, direction: Direction) -> bool {
     if coverage.is_logical {
         coverage.is_backwards
     } else {

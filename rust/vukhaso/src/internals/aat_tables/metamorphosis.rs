@@ -67,7 +67,7 @@ pub struct Subtable<'a> {
     /// What it does.
     pub kind: SubtableKind,
     /// For which lines it is, and in which order it goes over glyphs.
-    pub coverage: Coverage,
+    pub coverage: SubtableCoverage,
     /// It is applied where one of these flags is on.
     pub flags: u32,
     /// Its bytes behind its header, up to the end of the table: what it leads to may stand behind it.
@@ -78,7 +78,7 @@ pub struct Subtable<'a> {
 
 /// For which lines a subtable is, and in which order it goes over glyphs.
 #[derive(Clone, Copy, PartialEq, Eq, Debug)]
-pub struct Coverage {
+pub struct SubtableCoverage {
     /// It is for vertical lines, and else for horizontal ones.
     pub is_vertical: bool,
     /// It goes over the glyphs in the other order.
@@ -89,10 +89,10 @@ pub struct Coverage {
     pub is_logical: bool,
 }
 
-impl Coverage {
+impl SubtableCoverage {
     /// The coverage of its bits.
     fn of(bits: u32) -> Self {
-        Coverage {
+        SubtableCoverage {
             is_vertical: bits & 0x8000_0000 != 0,
             is_backwards: bits & 0x4000_0000 != 0,
             all_directions: bits & 0x2000_0000 != 0,
@@ -309,7 +309,7 @@ impl<'a> Metamorphosis<'a> {
         let digest = self.digest_of(kind, table);
         self.subtables.push(Subtable {
             kind,
-            coverage: Coverage::of(bits),
+            coverage: SubtableCoverage::of(bits),
             flags: number_or_0(start, 8),
             table,
             digest,

@@ -7,7 +7,7 @@ use crate::buffer::{
     Direction, HB_BUFFER_SCRATCH_FLAG_HAS_NON_ASCII, hb_buffer_t, hb_glyph_info_t,
 };
 use crate::ot_characters::is_decimal_number;
-use crate::ot_map::{LayoutPlan, PlannedFeature, ShapePlan};
+use crate::ot_map::{LayoutPlan, OtShapePlan, PlannedFeature};
 use crate::ot_plan::TextPlan;
 use crate::text::Feature;
 
@@ -102,7 +102,7 @@ fn set_bits(buffer: &mut hb_buffer_t, planned: &PlannedFeature, feature: &Featur
 /// # Requires
 ///
 /// - `buffer.old.have_output ≡ false`
-fn set_fractions(buffer: &mut hb_buffer_t, plan: &ShapePlan) {
+fn set_fractions(buffer: &mut hb_buffer_t, plan: &OtShapePlan) {
     debug_assert!(!buffer.have_output());
     if buffer.scratch_flags & HB_BUFFER_SCRATCH_FLAG_HAS_NON_ASCII != 0 && plan.has_frac {
         set_each_fraction(buffer, plan);
@@ -114,7 +114,7 @@ fn set_fractions(buffer: &mut hb_buffer_t, plan: &ShapePlan) {
 /// # Requires
 ///
 /// - `buffer.old.have_output ≡ false`
-fn set_each_fraction(buffer: &mut hb_buffer_t, plan: &ShapePlan) {
+fn set_each_fraction(buffer: &mut hb_buffer_t, plan: &OtShapePlan) {
     debug_assert!(!buffer.have_output());
     let count = buffer.info().len();
     for place in 0..count {
@@ -127,7 +127,7 @@ fn set_each_fraction(buffer: &mut hb_buffer_t, plan: &ShapePlan) {
 /// # Requires
 ///
 /// - `buffer.old.have_output ≡ false`
-fn set_if_slash(buffer: &mut hb_buffer_t, place: usize, plan: &ShapePlan) {
+fn set_if_slash(buffer: &mut hb_buffer_t, place: usize, plan: &OtShapePlan) {
     debug_assert!(!buffer.have_output());
     let infos = buffer.info();
     if place < infos.len() && is_slash(&infos[place]) {
@@ -147,7 +147,7 @@ fn is_slash(info: &hb_glyph_info_t) -> bool {
 ///
 /// - `closed: buffer.old.have_output ≡ false`
 /// - `there: slash < length buffer.old.input`
-fn set_fraction(buffer: &mut hb_buffer_t, slash: usize, plan: &ShapePlan) {
+fn set_fraction(buffer: &mut hb_buffer_t, slash: usize, plan: &OtShapePlan) {
     debug_assert!(!buffer.have_output());
     debug_assert!(slash < buffer.info().len());
     let start = digits_before(buffer.info(), slash);
@@ -189,7 +189,7 @@ fn add_fraction(
     start: usize,
     slash: usize,
     end: usize,
-    plan: &ShapePlan,
+    plan: &OtShapePlan,
 ) {
     debug_assert!(!buffer.have_output());
     debug_assert!(start <= slash);
@@ -211,7 +211,7 @@ fn add_fraction_masks(
     start: usize,
     slash: usize,
     end: usize,
-    plan: &ShapePlan,
+    plan: &OtShapePlan,
     direction: Direction,
 ) {
     debug_assert!(start <= slash);
@@ -223,7 +223,7 @@ fn add_fraction_masks(
 }
 
 /// The mask of the digits before a slash: numerators in a line that runs forward.
-fn mask_before(plan: &ShapePlan, direction: Direction) -> u32 {
+fn mask_before(plan: &OtShapePlan, direction: Direction) -> u32 {
     if direction.is_forward() {
         plan.numr_mask | plan.frac_mask
     } else {
@@ -232,7 +232,7 @@ fn mask_before(plan: &ShapePlan, direction: Direction) -> u32 {
 }
 
 /// The mask of the digits behind a slash: denominators in a line that runs forward.
-fn mask_behind(plan: &ShapePlan, direction: Direction) -> u32 {
+fn mask_behind(plan: &OtShapePlan, direction: Direction) -> u32 {
     if direction.is_forward() {
         plan.frac_mask | plan.dnom_mask
     } else {

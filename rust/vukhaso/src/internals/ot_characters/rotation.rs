@@ -5,7 +5,7 @@
 use crate::buffer::{CharExt, Direction, Mirrors, hb_buffer_t, hb_glyph_info_t};
 use crate::font_functions::FontFunctions;
 use crate::ot_characters::glyph_info::{is_decimal_number, is_letter};
-use crate::ot_map::ShapePlan;
+use crate::ot_map::OtShapePlan;
 use crate::script_items::glyph_info::is_unicode_space;
 use crate::script_items::item::is_unicode_mark;
 use crate::unicode_tables::mirrors;
@@ -31,7 +31,7 @@ use crate::unicode_tables::mirrors;
 pub fn rotate_characters<F: FontFunctions>(
     buffer: &mut hb_buffer_t,
     font: &F,
-    plan: &ShapePlan,
+    plan: &OtShapePlan,
     direction: Direction,
 ) {
     debug_assert!(!buffer.have_output());
@@ -42,7 +42,7 @@ pub fn rotate_characters<F: FontFunctions>(
 fn rotate_all<F: FontFunctions>(
     infos: &mut [hb_glyph_info_t],
     font: &F,
-    plan: &ShapePlan,
+    plan: &OtShapePlan,
     direction: Direction,
 ) {
     turn_all(infos, font, plan, direction);
@@ -53,7 +53,7 @@ fn rotate_all<F: FontFunctions>(
 fn turn_all<F: FontFunctions>(
     infos: &mut [hb_glyph_info_t],
     font: &F,
-    plan: &ShapePlan,
+    plan: &OtShapePlan,
     direction: Direction,
 ) {
     if direction.is_forward() {
@@ -136,7 +136,7 @@ fn mirror_image(info: &hb_glyph_info_t, mirrors: &Mirrors) -> Option<char> {
 fn raise_all<F: FontFunctions>(
     infos: &mut [hb_glyph_info_t],
     font: &F,
-    plan: &ShapePlan,
+    plan: &OtShapePlan,
     direction: Direction,
 ) {
     if direction.is_horizontal() || plan.has_vert {

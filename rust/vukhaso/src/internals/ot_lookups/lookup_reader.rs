@@ -20,8 +20,8 @@ use crate::ot_lookups::reading::{
 };
 use crate::ot_lookups::seconds::seconds_of;
 use crate::ot_lookups::subtable::{
-    Form, MAX_CONTEXT_LENGTH, NextAsked, Subtable, behind_extension, behind_list, input_classes_at,
-    positioning_form, substitution_form, table_or_empty,
+    MAX_CONTEXT_LENGTH, NextAsked, Subtable, SubtableFormat, behind_extension, behind_list,
+    input_classes_at, positioning_form, substitution_form, table_or_empty,
 };
 use crate::ot_lookups::subtable_limit::subtable_count;
 
@@ -150,7 +150,9 @@ impl<'a> LookupReader<'a> {
         }
         let form = self.form_of(lookup_type, format);
         match form {
-            Form::Plain | Form::Marks => self.read_plain(form, lookup_type, format, table),
+            SubtableFormat::Plain | SubtableFormat::Marks => {
+                self.read_plain(form, lookup_type, format, table)
+            }
             _ => self.read_formed(form, lookup_type, format, table),
         }
     }
@@ -160,12 +162,12 @@ impl<'a> LookupReader<'a> {
     #[inline(always)]
     fn read_plain(
         &mut self,
-        form: Form,
+        form: SubtableFormat,
         lookup_type: u16,
         format: u16,
         table: &'a [u8],
     ) -> Result<(), AllocError> {
-        let bases = self.bases_if(form == Form::Marks, table);
+        let bases = self.bases_if(form == SubtableFormat::Marks, table);
         let first = self.summed(table_or_empty(table, 2));
         let subtable = Subtable {
             lookup_type,
@@ -192,7 +194,7 @@ impl<'a> LookupReader<'a> {
     /// - `is_covered_form form ≡ true → is_chained_type lookup_type ≡ is_chained_form form`
     fn read_formed(
         &mut self,
-        form: Form,
+        form: SubtableFormat,
         lookup_type: u16,
         format: u16,
         table: &'a [u8],
@@ -209,7 +211,7 @@ impl<'a> LookupReader<'a> {
             firsts: first.summaries.firsts,
             bases: Coverage::new(&[]),
             classes: self.input_classes(form, table),
-            backtrack_classes: self.classes_if(form == Form::ChainedClasses, table, 4),
+            backtrack_classes: self.classes_if(form == SubtableFormat::ChainedClasses, table, 4),
             lookahead_classes: self.ahead_classes(form, table),
             next: self.next_asked(form, table, first_coverage),
             first_coverage,
@@ -229,7 +231,7 @@ impl<'a> LookupReader<'a> {
     }
 
     /// The form of a subtable.
-    fn form_of(&self, lookup_type: u16, format: u16) -> Form {
+    fn form_of(&self, lookup_type: u16, format: u16) -> SubtableFormat {
         if self.is_positioning() {
             positioning_form(lookup_type, format)
         } else {
@@ -238,16 +240,16 @@ impl<'a> LookupReader<'a> {
     }
 
     /// Reads the coverages of a context by coverages, or around a reverse substitution.
-    fn read_coverages(&mut self, form: Form, table: &'a [u8]) -> Result<(), AllocError> {
+    fn read_coverages(&mut self, form: SubtableFormat, table: &'a [u8]) -> Result<(), AllocError> {
         match form {
-            Form::Coverages => self.read_offsets(table, 6, u16_at(table, 2).unwrap_or(0)),
-            Form::ChainedCoverages => {
+            SubtableFormat::Coverages => self.read_offsets(table, 6, u16_at(table, 2).unwrap_or(0)),
+            SubtableFormat::ChainedCoverages => {
                 let input = self.read_list(table, 2)?;
                 let lookahead = self.read_list(table, input)?;
                 let _records = self.read_list(table, lookahead)?;
                 Ok(())
             }
-            Form::Reverse => {
+            SubtableFormat::Reverse => {
                 let lookahead = self.read_list(table, 4)?;
                 let _substitutes = self.read_list(table, lookahead)?;
                 Ok(())
@@ -299,10 +301,10 @@ impl<'a> LookupReader<'a> {
     }
 
     /// The glyphs at the cursor: in a context by coverages the first of those of the input.
-    fn first_of(&mut self, form: Form, table: &'a [u8], first: usize) -> Summed<'a> {
+    fn first_of(&mut self, form: SubtableFormat, table: &'a [u8], first: usize) -> Summed<'a> {
         let input = match form {
-            Form::Coverages => first,
-            Form::ChainedCoverages => {
+            SubtableFormat::Coverages => first,
+            SubtableFormat::ChainedCoverages => {
                 first.saturating_add(usize::from(u16_at(table, 2).unwrap_or(0)))
             }
             _ => return self.summed(table_or_empty(table, 2)),
@@ -317,7 +319,12 @@ impl<'a> LookupReader<'a> {
 
     /// What a context by coverages asks of the glyph after the one at the cursor: the second coverage of
     /// the input, or where the input has one, the first after it.
-    fn next_asked(&self, form: Form, table: &'a [u8], first: usize) -> Option<NextAsked<'a>> {
+    fn next_asked(
+        &self,
+        form: SubtableFormat,
+        table: &'a [u8],
+        first: usize,
+    ) -> Option<NextAsked<'a>> {
         let (backtrack, input, lookahead) = coverage_numbers(form, table)?;
         if usize::from(input) > MAX_CONTEXT_LENGTH || !has_next(input, lookahead) {
             return None;
@@ -337,7 +344,7 @@ impl<'a> LookupReader<'a> {
     }
 
     /// The classes of the input.
-    fn input_classes(&mut self, form: Form, table: &'a [u8]) -> ClassDefinition<'a> {
+    fn input_classes(&mut self, form: SubtableFormat, table: &'a [u8]) -> ClassDefinition<'a> {
         match input_classes_at(form) {
             Some(at) => self.classes(table_or_empty(table, at)),
             None => ClassDefinition::new(&[]),
@@ -345,10 +352,10 @@ impl<'a> LookupReader<'a> {
     }
 
     /// The classes of what stands after the input.
-    fn ahead_classes(&mut self, form: Form, table: &'a [u8]) -> ClassDefinition<'a> {
+    fn ahead_classes(&mut self, form: SubtableFormat, table: &'a [u8]) -> ClassDefinition<'a> {
         match form {
-            Form::ChainedClasses => self.classes(table_or_empty(table, 8)),
-            Form::PairClasses => self.classes(table_or_empty(table, 10)),
+            SubtableFormat::ChainedClasses => self.classes(table_or_empty(table, 8)),
+            SubtableFormat::PairClasses => self.classes(table_or_empty(table, 10)),
             _ => ClassDefinition::new(&[]),
         }
     }

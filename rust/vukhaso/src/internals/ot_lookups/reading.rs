@@ -7,7 +7,7 @@ use crate::font_tables::class_definition::ClassDefinition;
 use crate::glyph_digests::digest::Digest;
 use crate::glyph_digests::first_glyphs::{FirstGlyphs, Summaries};
 use crate::glyph_digests::summary::Summary;
-use crate::ot_lookups::subtable::{Form, Subtable};
+use crate::ot_lookups::subtable::{Subtable, SubtableFormat};
 
 /// The classes in these bytes, or none where they are slow to ask.
 pub(crate) fn quick_classes(table: &[u8]) -> ClassDefinition<'_> {
@@ -20,10 +20,10 @@ pub(crate) fn quick_classes(table: &[u8]) -> ClassDefinition<'_> {
 }
 
 /// How many coverages a context by coverages has before the cursor, for its input and after it.
-pub(crate) fn coverage_numbers(form: Form, table: &[u8]) -> Option<(u16, u16, u16)> {
+pub(crate) fn coverage_numbers(form: SubtableFormat, table: &[u8]) -> Option<(u16, u16, u16)> {
     match form {
-        Form::Coverages => Some((0, u16_at(table, 2)?, 0)),
-        Form::ChainedCoverages => {
+        SubtableFormat::Coverages => Some((0, u16_at(table, 2)?, 0)),
+        SubtableFormat::ChainedCoverages => {
             let backtrack = u16_at(table, 2)?;
             let input_at = 4 + 2 * usize::from(backtrack);
             let input = u16_at(table, input_at)?;

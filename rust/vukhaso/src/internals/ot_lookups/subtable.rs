@@ -115,7 +115,7 @@ fn next_digest(coverage: &Coverage) -> Digest {
 
 /// What the tables of a subtable are called in its layout.
 #[derive(Clone, Copy, PartialEq, Eq, Debug)]
-pub enum Form {
+pub enum SubtableFormat {
     /// A coverage at the byte 2, and nothing else that is parsed.
     Plain,
     /// A context by glyphs: a coverage at the byte 2.
@@ -145,12 +145,12 @@ pub enum Form {
 /// ensures chained { is_covered_form result ≡ true → is_chained_type lookup_type ≡ is_chained_form result }
 /// ```
 #[inline]
-pub fn substitution_form(lookup_type: u16, format: u16) -> Form {
+pub fn substitution_form(lookup_type: u16, format: u16) -> SubtableFormat {
     match lookup_type {
         5 => context_form(format, false),
         6 => context_form(format, true),
-        8 => Form::Reverse,
-        _ => Form::Plain,
+        8 => SubtableFormat::Reverse,
+        _ => SubtableFormat::Plain,
     }
 }
 
@@ -163,33 +163,33 @@ pub fn substitution_form(lookup_type: u16, format: u16) -> Form {
 /// ensures chained { is_covered_form result ≡ true → is_chained_type lookup_type ≡ is_chained_form result }
 /// ```
 #[inline]
-pub fn positioning_form(lookup_type: u16, format: u16) -> Form {
+pub fn positioning_form(lookup_type: u16, format: u16) -> SubtableFormat {
     match lookup_type {
-        2 if format == 2 => Form::PairClasses,
-        4 | 5 | 6 => Form::Marks,
+        2 if format == 2 => SubtableFormat::PairClasses,
+        4 | 5 | 6 => SubtableFormat::Marks,
         7 => context_form(format, false),
         8 => context_form(format, true),
-        _ => Form::Plain,
+        _ => SubtableFormat::Plain,
     }
 }
 
 /// The form of a context.
-fn context_form(format: u16, is_chained: bool) -> Form {
+fn context_form(format: u16, is_chained: bool) -> SubtableFormat {
     match format {
-        2 if is_chained => Form::ChainedClasses,
-        2 => Form::Classes,
-        3 if is_chained => Form::ChainedCoverages,
-        3 => Form::Coverages,
-        _ => Form::Glyphs,
+        2 if is_chained => SubtableFormat::ChainedClasses,
+        2 => SubtableFormat::Classes,
+        3 if is_chained => SubtableFormat::ChainedCoverages,
+        3 => SubtableFormat::Coverages,
+        _ => SubtableFormat::Glyphs,
     }
 }
 
 /// Where a subtable of a form has the offset of the classes of its input; `None` where these have none.
-pub(crate) fn input_classes_at(form: Form) -> Option<usize> {
+pub(crate) fn input_classes_at(form: SubtableFormat) -> Option<usize> {
     match form {
-        Form::Classes => Some(4),
-        Form::ChainedClasses => Some(6),
-        Form::PairClasses => Some(8),
+        SubtableFormat::Classes => Some(4),
+        SubtableFormat::ChainedClasses => Some(6),
+        SubtableFormat::PairClasses => Some(8),
         _ => None,
     }
 }

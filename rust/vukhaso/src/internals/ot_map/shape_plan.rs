@@ -49,7 +49,7 @@ pub struct TextProperties<'a> {
 
 /// How a text is shaped by a font.
 #[derive(Debug)]
-pub struct ShapePlan {
+pub struct OtShapePlan {
     /// The lookups and the features.
     pub layout: LayoutPlan,
     /// The bit of fractions.
@@ -84,7 +84,7 @@ pub struct ShapePlan {
     pub fallback_mark_positioning: bool,
 }
 
-impl ShapePlan {
+impl OtShapePlan {
     /// What is chosen of a font for a text, and the features that come before those of a script's shaper.
     ///
     /// # Errors

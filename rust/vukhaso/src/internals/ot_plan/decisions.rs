@@ -5,7 +5,7 @@
 use crate::common::{Direction, Tag};
 use crate::font_face::Face;
 use crate::ot_gpos_tables::kern_table::KernTable;
-use crate::ot_map::{FontLayout, KernLayout, LayoutPlan, ShapePlan};
+use crate::ot_map::{FontLayout, KernLayout, LayoutPlan, OtShapePlan};
 use crate::script_shapers::{ScriptShaper, ZeroWidthMarks};
 
 /// The shaper of a text.
@@ -28,7 +28,7 @@ pub(crate) fn decided(
     font: &FontLayout,
     direction: Direction,
     chosen: &ChosenShaper,
-) -> ShapePlan {
+) -> OtShapePlan {
     let kern = font.kern;
     let frac_mask = one_mask(&layout, b"frac");
     let numr_mask = one_mask(&layout, b"numr");
@@ -40,7 +40,7 @@ pub(crate) fn decided(
     let apply_gpos = applies_gpos(font.gpos, chosen.shaper, layout.gpos_script);
     let apply_kern = applies_kern(&layout, direction, kern.is_there, apply_gpos);
     let are_unplaced = !apply_gpos && !(apply_kern && kern.is_cross_stream);
-    ShapePlan {
+    OtShapePlan {
         frac_mask,
         numr_mask,
         dnom_mask,

@@ -10,7 +10,7 @@ use crate::font_face::Face;
 use crate::font_functions::FontFunctions;
 use crate::font_variations::substitutions_of;
 use crate::memory::AllocError;
-use crate::ot_map::{FeatureFlags, FontLayout, PlanBuilder, ShapePlan, TextProperties};
+use crate::ot_map::{FeatureFlags, FontLayout, OtShapePlan, PlanBuilder, TextProperties};
 use crate::ot_plan::decisions::{ChosenShaper, decided, kern_layout, mask};
 use crate::ot_plan::form_places::FormPlaces;
 use crate::ot_plan::glyphs_of_font::FaceGlyphs;
@@ -27,7 +27,7 @@ use crate::text::{Feature, Language, LanguageTable};
 #[derive(Debug)]
 pub struct TextPlan {
     /// Features, lookups and positions.
-    pub shape: ShapePlan,
+    pub shape: OtShapePlan,
     /// What the shaper of the script does.
     pub script: ScriptPlan,
     /// What it does with syllables.
@@ -140,7 +140,7 @@ fn plan_of<F: FontFunctions>(
 ) -> Result<TextPlan, AllocError> {
     let tables = layout_of(face);
     let substitutes = substitutes_by_morx(face, segment.direction);
-    let mut builder = ShapePlan::begin(&tables, text)?;
+    let mut builder = OtShapePlan::begin(&tables, text)?;
     let chosen = add_features(&mut builder, segment, features, substitutes)?;
     let layout = builder.compile()?;
     let shape = decided(layout, &tables, segment.direction, &chosen);
@@ -237,7 +237,7 @@ fn add_features(
     };
     builder.enable_feature(Tag::from_bytes(b"trak"), with_fallback)?;
     collect_features(chosen.shaper, builder, segment.script)?;
-    ShapePlan::add_common_features(builder, segment.direction, features)?;
+    OtShapePlan::add_common_features(builder, segment.direction, features)?;
     override_features(chosen.shaper, builder)?;
     Ok(chosen)
 }

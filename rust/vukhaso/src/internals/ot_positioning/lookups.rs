@@ -15,7 +15,7 @@ use crate::ot_gpos_tables::contour_points::{ContourPoint, ContourPoints};
 use crate::ot_gpos_tables::instance::Instance;
 use crate::ot_gpos_tables::kern_table::KernTable;
 use crate::ot_layout::{LookupOptions, Search};
-use crate::ot_map::{LayoutPlan, PlannedLookup, ShapePlan};
+use crate::ot_map::{LayoutPlan, OtShapePlan, PlannedLookup};
 use crate::ot_plan::{Step, Watch, budget_of, options_of};
 
 /// The size and the variations at which a font is used, as its lookups ask for them.
@@ -53,7 +53,7 @@ pub(crate) fn position_by_lookups<F: FontFunctions, W: Watch>(
     buffer: &mut hb_buffer_t,
     face: &Face,
     font: &F,
-    plan: &ShapePlan,
+    plan: &OtShapePlan,
     watch: &mut W,
 ) -> Result<(), AllocError> {
     debug_assert!(!buffer.have_output());
@@ -73,7 +73,7 @@ fn position_by_gpos<F: FontFunctions, W: Watch>(
     buffer: &mut hb_buffer_t,
     face: &Face,
     font: &F,
-    plan: &ShapePlan,
+    plan: &OtShapePlan,
     watch: &mut W,
 ) -> Result<(), AllocError> {
     debug_assert!(!buffer.have_output());
@@ -93,7 +93,7 @@ fn position_by_gpos<F: FontFunctions, W: Watch>(
 fn kern_by_table<W: Watch>(
     buffer: &mut hb_buffer_t,
     face: &Face,
-    plan: &ShapePlan,
+    plan: &OtShapePlan,
     watch: &mut W,
 ) -> Result<(), AllocError> {
     debug_assert!(!buffer.have_output());

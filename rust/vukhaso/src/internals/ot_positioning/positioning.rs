@@ -7,7 +7,7 @@ use crate::font_face::Face;
 use crate::font_functions::FontFunctions;
 use crate::memory::AllocError;
 use crate::ot_attachments::position_finish_offsets;
-use crate::ot_map::ShapePlan;
+use crate::ot_map::OtShapePlan;
 use crate::ot_plan::{Step, TextPlan, Watch};
 use crate::ot_positioning::lookups::position_by_lookups;
 use crate::ot_positions::{
@@ -61,7 +61,7 @@ fn zeroes_marks(plan: &TextPlan, step: ZeroWidthMarks) -> bool {
 }
 
 /// Whether a mark that loses its width is moved back by it.
-fn adjusts_marks(buffer: &hb_buffer_t, plan: &ShapePlan) -> bool {
+fn adjusts_marks(buffer: &hb_buffer_t, plan: &OtShapePlan) -> bool {
     plan.adjust_mark_positioning_when_zeroing && buffer.direction.is_forward()
 }
 
@@ -75,7 +75,7 @@ fn finish_positions<F: FontFunctions>(
     buffer: &mut hb_buffer_t,
     face: &Face,
     font: &F,
-    plan: &ShapePlan,
+    plan: &OtShapePlan,
     direction: Direction,
 ) -> Result<(), AllocError> {
     debug_assert!(!buffer.have_output());

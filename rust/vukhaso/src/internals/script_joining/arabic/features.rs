@@ -6,7 +6,7 @@ use crate::common::{Script, Tag, script};
 use crate::memory::AllocError;
 use crate::ot_map::{FeatureFlags, LayoutPlan, Pause, PlanBuilder};
 
-/// The features of forms, in the order of the numbers of `Form`, from `Isol` on.
+/// The features of forms, in the order of the numbers of `ArabicAction`, from `Isol` on.
 pub const FORM_FEATURES: [&[u8; 4]; 7] = [
     b"isol", b"fina", b"fin2", b"fin3", b"medi", b"med2", b"init",
 ];

@@ -8,7 +8,7 @@ use crate::script_joining::joining::kind::JoiningType::*;
 /// How a letter is written by its neighbours, each form by the feature of OpenType that has it; and how a piece of a mark that is
 /// stretched over a word is.
 #[derive(Clone, Copy, PartialEq, Eq, Debug)]
-pub enum Form {
+pub enum ArabicAction {
     /// It is no letter that joins.
     Unformed,
     /// Joined on no side: `isol`.
@@ -31,9 +31,9 @@ pub enum Form {
     StchRepeating,
 }
 
-use Form::*;
+use ArabicAction::*;
 
-impl Form {
+impl ArabicAction {
     /// The number under which an item keeps the form.
     pub(crate) fn number(self) -> u8 {
         match self {
@@ -53,7 +53,11 @@ impl Form {
 
 /// The form of a letter of the type `own`, where `before` and `after` are the types of the nearest
 /// letters that are not transparent.
-pub(crate) fn form_between(before: JoiningType, own: JoiningType, after: JoiningType) -> Form {
+pub(crate) fn form_between(
+    before: JoiningType,
+    own: JoiningType,
+    after: JoiningType,
+) -> ArabicAction {
     match own {
         NonJoining | Transparent => Unformed,
         Alaph => form_of_alaph(before, after.joins_previous()),
@@ -65,7 +69,7 @@ pub(crate) fn form_between(before: JoiningType, own: JoiningType, after: Joining
 }
 
 /// The form of a letter by the sides on which it is joined.
-fn form_of_sides(before: bool, after: bool) -> Form {
+fn form_of_sides(before: bool, after: bool) -> ArabicAction {
     match (before, after) {
         (false, false) => Isol,
         (false, true) => Init,
@@ -75,7 +79,7 @@ fn form_of_sides(before: bool, after: bool) -> Form {
 }
 
 /// The form of an alaph: by the letter before it, and by whether its word goes on.
-fn form_of_alaph(before: JoiningType, goes_on: bool) -> Form {
+fn form_of_alaph(before: JoiningType, goes_on: bool) -> ArabicAction {
     match (before.joins_next(), goes_on) {
         (true, true) => Med2,
         (true, false) => Fina,
@@ -85,7 +89,7 @@ fn form_of_alaph(before: JoiningType, goes_on: bool) -> Form {
 }
 
 /// The form of an alaph that ends a word and is not joined.
-fn last_alaph(before: JoiningType) -> Form {
+fn last_alaph(before: JoiningType) -> ArabicAction {
     match before {
         DalathRish => Fin3,
         Right | Alaph => Fin2,

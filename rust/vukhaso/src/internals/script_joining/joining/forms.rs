@@ -4,7 +4,7 @@
 
 use crate::glyph::hb_glyph_info_t;
 use crate::script_items::item::{is_mark_or_format, set_shaper_byte, shaper_byte};
-use crate::script_joining::joining::form::{Form, form_between};
+use crate::script_joining::joining::form::{ArabicAction, form_between};
 use crate::script_joining::joining::kind::JoiningType::*;
 use crate::script_joining::joining::kind::{JoiningType, joining_type};
 
@@ -55,7 +55,7 @@ fn form_at(
     before: JoiningType,
     own: JoiningType,
     beyond: JoiningType,
-) -> Form {
+) -> ArabicAction {
     debug_assert!(place < infos.len());
     match own {
         Left | Dual | Alaph => {

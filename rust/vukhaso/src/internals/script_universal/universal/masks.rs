@@ -49,7 +49,7 @@ fn mask_reph(infos: &mut [hb_glyph_info_t], start: usize, end: usize, mask: u32)
 
 /// How a syllable stands in its word, as far as it was read.
 #[derive(Clone, Copy, PartialEq, Eq, Debug)]
-enum Form {
+enum JoiningForm {
     /// It is none that joins.
     Unformed,
     /// It is alone.
@@ -75,22 +75,22 @@ fn set_forms(infos: &mut [hb_glyph_info_t], masks: &FormMasks) {
         return;
     }
     let (mut before, mut start) = (0, 0);
-    let mut form = Form::Unformed;
+    let mut form = JoiningForm::Unformed;
     for _turn in 0..infos.len() {
         if start >= infos.len() {
             break;
         }
         let end = syllable_end(infos, start);
-        let joined = if form == Form::Last {
+        let joined = if form == JoiningForm::Last {
             masks.medi
         } else {
             masks.init
         };
         form = next_form(kind_at(infos, start), form);
-        if form == Form::Last {
+        if form == JoiningForm::Last {
             set_form(infos, before, start, masks, joined);
         }
-        if form != Form::Unformed {
+        if form != JoiningForm::Unformed {
             set_form(infos, start, end, masks, own_mask(form, masks));
         }
         before = start;
@@ -99,8 +99,8 @@ fn set_forms(infos: &mut [hb_glyph_info_t], masks: &FormMasks) {
 }
 
 /// The mask of the last syllable that was read.
-fn own_mask(form: Form, masks: &FormMasks) -> u32 {
-    if form == Form::Last {
+fn own_mask(form: JoiningForm, masks: &FormMasks) -> u32 {
+    if form == JoiningForm::Last {
         masks.fina
     } else {
         masks.isol
@@ -113,13 +113,13 @@ pub(crate) fn joins(kind: u8) -> bool {
 }
 
 /// The form of a syllable of a kind, behind one of the form `last`.
-fn next_form(kind: u8, last: Form) -> Form {
+fn next_form(kind: u8, last: JoiningForm) -> JoiningForm {
     if !joins(kind) {
-        Form::Unformed
-    } else if last == Form::Unformed {
-        Form::Alone
+        JoiningForm::Unformed
+    } else if last == JoiningForm::Unformed {
+        JoiningForm::Alone
     } else {
-        Form::Last
+        JoiningForm::Last
     }
 }
 
