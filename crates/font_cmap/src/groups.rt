@@ -9,26 +9,13 @@ ghost use Rattle.font_cmap.specs.Subtables.{groups_glyph, some_glyph};
 ghost use Rattle.font_cmap.specs.Runs.{glyph_of_group, IsGroupRun};
 
 use crate::arrays::some_glyph;
-use crate::counts::count_32;
+use crate::low_numbers::low_u32_at;
 use crate::runs::{Beside, CodeRows, FIRST_COUNT, row_run};
-use font_tables::bisection::{KeyedRows, row_with};
-use font_tables::bytes::u32_at;
 use std::cmp::Ordering;
 
 /// The groups of a subtable.
 #[derive(Clone, Copy)]
 struct Groups<'a>(&'a [u8]);
-
-impl KeyedRows for Groups<'_> {
-    ghost use Rattle.font_cmap.specs.Subtables.{beside_group};
-
-    ghost beside_of = { λ groups code row. beside_group groups.0.now code row };
-
-    #[inline]
-    fn beside(&self, code: u32, row: usize) -> Option<Ordering> {
-        self.beside_run(code, row).order
-    }
-}
 
 impl CodeRows for Groups<'_> {
     ghost use Rattle.font_cmap.specs.Subtables.{beside_group};
@@ -36,16 +23,12 @@ impl CodeRows for Groups<'_> {
     ghost place_of = { λ groups code row. beside_group groups.0.now code row };
 
     #[inline]
-    #[tactic(auto, using(crate::proofs::Outside::beside_group_outside))]
-    fn beside_run(&self, code: u32, row: usize) -> Beside {
+    fn beside_run(&self, code: u32, row: u32) -> Beside {
         let outside = Beside {
             order: None,
             last: u32::MAX,
         };
-        if row >= self.0.len() / 12 {
-            return outside;
-        }
-        let Some(start) = u32_at(self.0, 16 + 12 * row) else {
+        let Some(start) = low_u32_at(self.0, 16 + 12 * row as usize) else {
             return outside;
         };
         if code < start {
@@ -54,7 +37,7 @@ impl CodeRows for Groups<'_> {
                 last: start - 1,
             };
         }
-        match u32_at(self.0, 20 + 12 * row) {
+        match low_u32_at(self.0, 20 + 12 * row as usize) {
             None => outside,
             Some(end) if end < code => Beside {
                 order: Some(Ordering::Greater),
@@ -70,10 +53,10 @@ impl CodeRows for Groups<'_> {
 
 /// How many groups there are.
 #[tactic(auto, unfolding(crate::specs::Subtables::group_count))]
-fn group_count(table: &[u8]) -> usize
+fn group_count(table: &[u8]) -> u32
     ensures { result ≡ group_count table.now }
 {
-    count_32(table, 12)
+    low_u32_at(table, 12).unwrap_or(0)
 }
 
 /// The glyph that a group gives to a code that it reaches.
@@ -107,27 +90,13 @@ struct Group {
 }
 
 /// The group of a row.
-#[tactic(auto, using(crate::proofs::Outside::group_glyph_outside), unfolding(crate::specs::Subtables::group_glyph))]
-fn group_of(table: &[u8], row: usize) -> Option<Group>
+#[tactic(auto, unfolding(crate::specs::Subtables::group_glyph))]
+fn group_of(table: &[u8], row: u32) -> Option<Group>
     ensures { (format code : ℕ) → glyph_of_group format code result ≡ group_glyph table.now format code row }
 {
-    if row < table.len() / 12 {
-        let start = u32_at(table, 16 + 12 * row)?;
-        let glyph = u32_at(table, 24 + 12 * row)?;
-        Some(Group { start, glyph })
-    } else {
-        None
-    }
-}
-
-/// The glyph of a code by format 12 or 13.
-#[tactic(auto, unfolding(crate::specs::Subtables::groups_glyph))]
-pub(crate) fn groups_glyph(table: &[u8], format: u16, code: u32) -> Option<u16>
-    ensures { result ≡ groups_glyph table.now format code }
-{
-    let row = row_with(&Groups(table), group_count(table), code)?;
-    let group = group_of(table, row)?;
-    glyph_in_group(format, code, group.start, group.glyph)
+    let start = low_u32_at(table, 16 + 12 * row as usize)?;
+    let glyph = low_u32_at(table, 24 + 12 * row as usize)?;
+    Some(Group { start, glyph })
 }
 
 /// The group that codes have, from one on up to `last`.
@@ -138,6 +107,7 @@ struct GroupRun {
 }
 
 /// The group of a code and of those behind it.
+#[inline]
 #[tactic(auto, unfolding(crate::specs::Subtables::groups_glyph))]
 fn group_run(table: &[u8], code: u32) -> GroupRun
     ensures goes { code ≤ result.last }
@@ -152,6 +122,15 @@ fn group_run(table: &[u8], code: u32) -> GroupRun
         group,
         last: run.last,
     }
+}
+
+/// The glyph of a code by format 12 or 13.
+pub(crate) fn groups_glyph(table: &[u8], format: u16, code: u32) -> Option<u16>
+    ensures { result ≡ groups_glyph table.now format code }
+{
+    let run = group_run(table, code);
+    let group = run.group?;
+    glyph_in_group(format, code, group.start, group.glyph)
 }
 
 /// The numbers of the glyphs of the first codes by format 12 or 13; 0 where a code has none.

@@ -10,14 +10,14 @@ use crate::arrays::some_glyph;
 use crate::choice::{choose, variation_subtable};
 use crate::codes::{Encoding, other_code, own_code};
 use crate::runs::FIRST_COUNT;
-use crate::subtable::{first_subtable_glyphs, subtable_glyph};
+use crate::subtable::{Subtable, first_subtable_glyphs, subtable_glyph};
 use crate::variations::{GlyphVariant, glyph_variant};
 use rb_common::GlyphId;
 
 /// A subtable, and what its codes stand for.
 #[derive(Clone, Copy)]
 struct Codes<'a> {
-    subtable: &'a [u8],
+    subtable: Subtable<'a>,
     encoding: Encoding,
 }
 
@@ -25,7 +25,7 @@ impl Codes<'_> {
     /// The glyph of a character.
     #[tactic(auto, unfolding(crate::specs::Codes::glyph_index))]
     fn glyph_of(&self, character: u32) -> Option<u16>
-        ensures { result ≡ glyph_index self.now.subtable.now self.now.encoding character }
+        ensures { result ≡ glyph_index self.now.subtable.segments.table.now self.now.encoding character }
     {
         match self.glyph_of_code(own_code(self.encoding, character)) {
             Some(glyph) => Some(glyph),
@@ -37,8 +37,8 @@ impl Codes<'_> {
     #[tactic(auto, using(crate::proofs::First::own_code_first), unfolding(crate::specs::Codes::glyph_index))]
     fn glyph_or_other(&self, own: Option<u16>, character: u32) -> Option<u16>
         requires first { character < 128 }
-        requires own { own ≡ subtable_glyph self.now.subtable.now character }
-        ensures { result ≡ glyph_index self.now.subtable.now self.now.encoding character }
+        requires own { own ≡ subtable_glyph self.now.subtable.segments.table.now character }
+        ensures { result ≡ glyph_index self.now.subtable.segments.table.now self.now.encoding character }
     {
         match own {
             Some(glyph) => Some(glyph),
@@ -50,28 +50,29 @@ impl Codes<'_> {
     #[tactic(auto, using(crate::proofs::Numbers::some_glyph_of_character))]
     fn number_or_other(&self, own: u16, character: u32) -> u16
         requires first { character < 128 }
-        requires own { some_glyph own ≡ subtable_glyph self.now.subtable.now character }
-        ensures { some_glyph result ≡ glyph_index self.now.subtable.now self.now.encoding character }
+        requires own { some_glyph own ≡ subtable_glyph self.now.subtable.segments.table.now character }
+        ensures { some_glyph result ≡ glyph_index self.now.subtable.segments.table.now self.now.encoding character }
     {
         let own = some_glyph(u64::from(own));
         self.glyph_or_other(own, character).unwrap_or(0)
     }
 
     /// The glyph of a code, if there is a code.
+    #[inline]
     fn glyph_of_code(&self, code: Option<u32>) -> Option<u16>
-        ensures { result ≡ option_and_then (subtable_glyph self.now.subtable.now) code }
+        ensures { result ≡ option_and_then (subtable_glyph self.now.subtable.segments.table.now) code }
     {
         let code = code?;
-        subtable_glyph(self.subtable, code)
+        subtable_glyph(&self.subtable, code)
     }
 }
 
 /// The numbers of the glyphs of the first characters; 0 where a character has none.
 fn first_glyphs(codes: &Codes<'_>) -> [u16; FIRST_COUNT]
     ensures { (character : ℕ) → character < 128
-        → some_glyph (slice_index result character) ≡ glyph_index codes.now.subtable.now codes.now.encoding character }
+        → some_glyph (slice_index result character) ≡ glyph_index codes.now.subtable.segments.table.now codes.now.encoding character }
 {
-    let own = first_subtable_glyphs(codes.subtable);
+    let own = first_subtable_glyphs(&codes.subtable);
     match codes.encoding {
         Encoding::Unicode => own,
         _ => glyphs_or_others(codes, &own),
@@ -81,9 +82,9 @@ fn first_glyphs(codes: &Codes<'_>) -> [u16; FIRST_COUNT]
 /// The same by the glyphs of their own numbers.
 fn glyphs_or_others(codes: &Codes<'_>, own: &[u16; FIRST_COUNT]) -> [u16; FIRST_COUNT]
     requires { (character : ℕ) → character < 128
-        → some_glyph (slice_index own.now character) ≡ subtable_glyph codes.now.subtable.now character }
+        → some_glyph (slice_index own.now character) ≡ subtable_glyph codes.now.subtable.segments.table.now character }
     ensures { (character : ℕ) → character < 128
-        → some_glyph (slice_index result character) ≡ glyph_index codes.now.subtable.now codes.now.encoding character }
+        → some_glyph (slice_index result character) ≡ glyph_index codes.now.subtable.segments.table.now codes.now.encoding character }
 {
     let mut glyphs = [0; FIRST_COUNT];
     for character in 0..FIRST_COUNT {
@@ -101,7 +102,10 @@ pub struct CharacterMap<'a> {
     pub encoding: Encoding,
     /// The subtable of variation sequences, from its format on; empty where the font has none.
     pub variations: &'a [u8],
+    codes: Codes<'a>,
     first_glyphs: [u16; FIRST_COUNT],
+    ghost same_subtable: { codes.subtable.segments.table.now ≡ subtable.now },
+    ghost same_encoding: { codes.encoding ≡ encoding },
     ghost firsts: { (character : ℕ) → character < 128
         → some_glyph (slice_index first_glyphs character) ≡ glyph_index subtable.now encoding character },
 }
@@ -121,14 +125,15 @@ impl<'a> CharacterMap<'a> {
     {
         let choice = choose(cmap, font_page);
         let codes = Codes {
-            subtable: choice.subtable,
+            subtable: Subtable::new(choice.subtable),
             encoding: choice.encoding,
         };
         CharacterMap {
-            subtable: codes.subtable,
-            encoding: codes.encoding,
+            subtable: choice.subtable,
+            encoding: choice.encoding,
             variations: variation_subtable(cmap),
             first_glyphs: first_glyphs(&codes),
+            codes,
         }
     }
 
@@ -139,20 +144,9 @@ impl<'a> CharacterMap<'a> {
     {
         let glyph = match self.first_glyphs.get(character as usize) {
             Some(number) => some_glyph(u64::from(*number)),
-            None => self.codes().glyph_of(character),
+            None => self.codes.glyph_of(character),
         };
         glyph.map(GlyphId)
-    }
-
-    /// How a glyph is found.
-    fn codes(&self) -> Codes<'a>
-        ensures subtable { result.subtable.now ≡ self.now.subtable.now }
-        ensures encoding { result.encoding ≡ self.now.encoding }
-    {
-        Codes {
-            subtable: self.subtable,
-            encoding: self.encoding,
-        }
     }
 
     /// What the font says of a character before a variation selector.

@@ -24,7 +24,7 @@ pub(crate) trait CodeRows {
     ghost place_of: { Self → ℕ → ℕ → Option Order };
 
     /// Where a code lies from a row: before it, in it or behind it; `None` where the row lies outside of the table.
-    fn beside_run(&self, code: u32, row: usize) -> Beside
+    fn beside_run(&self, code: u32, row: u32) -> Beside
         ensures order { result.order ≡ place_of self.now code row }
         ensures goes { code ≤ result.last }
         ensures alike { (other : ℕ) → code ≤ other → other ≤ result.last → place_of self.now other row ≡ place_of self.now code row };
@@ -33,13 +33,14 @@ pub(crate) trait CodeRows {
 /// The row that codes have, from one on up to `last`.
 #[derive(Clone, Copy)]
 pub(crate) struct RowRun {
-    pub(crate) row: Option<usize>,
+    pub(crate) row: Option<u32>,
     pub(crate) last: u32,
 }
 
 /// The row that holds a code among the first `count` rows, as bisection finds it, and the last code for which it goes the same way.
+#[inline]
 #[tactic(auto, unfolding(font_tables::specs::Bisection::row_with))]
-pub(crate) fn row_run<R: CodeRows>(rows: &R, count: usize, code: u32) -> RowRun
+pub(crate) fn row_run<R: CodeRows>(rows: &R, count: u32, code: u32) -> RowRun
     ensures goes { code ≤ result.last }
     ensures alike { (other : ℕ) → code ≤ other → other ≤ result.last → row_with (R.place_of rows.now other) count ≡ result.row }
 {

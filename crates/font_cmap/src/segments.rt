@@ -1,109 +1,25 @@
 //! Segments of codes (OpenType specification, `cmap`, "Format 4").
 
-ghost use Rattle.std.specs.Prelude.{◌≡◌, ◌<◌, ◌≤◌, ◌^◌, ℕ, IfSome, slice_index, option_and_then};
-ghost use Rattle.font_tables.specs.Bisection.{row_with};
-ghost use Rattle.font_cmap.specs.Subtables.{beside_segment, segment_count, number_of_list};
+ghost use Rattle.std.specs.Prelude.{◌≡◌, ◌<◌, ◌≤◌, ◌^◌, ℕ, slice_index};
 ghost use Rattle.font_cmap.specs.Subtables.{glyph_behind_range_offset, with_delta, glyph_in_segment};
 ghost use Rattle.font_cmap.specs.Subtables.{segment_glyph, segments_glyph, some_glyph};
 ghost use Rattle.font_cmap.specs.Runs.{glyph_of_segment, IsSegmentRun};
 
 use crate::arrays::some_glyph;
-use crate::counts::count_16;
-use crate::runs::{Beside, CodeRows, FIRST_COUNT, row_run};
-use font_tables::bisection::{KeyedRows, row_with};
-use font_tables::bytes::u16_at;
-use std::cmp::Ordering;
-
-/// The segments of a subtable.
-#[derive(Clone, Copy)]
-struct Segments<'a>(&'a [u8]);
-
-impl KeyedRows for Segments<'_> {
-    ghost use Rattle.font_cmap.specs.Subtables.{beside_segment};
-
-    ghost beside_of = { λ segments code row. beside_segment segments.0.now code row };
-
-    #[inline]
-    fn beside(&self, code: u32, row: usize) -> Option<Ordering> {
-        self.beside_run(code, row).order
-    }
-}
-
-impl CodeRows for Segments<'_> {
-    ghost use Rattle.font_cmap.specs.Subtables.{beside_segment};
-
-    ghost place_of = { λ segments code row. beside_segment segments.0.now code row };
-
-    #[inline]
-    #[tactic(auto, using(crate::proofs::Outside::beside_segment_outside))]
-    fn beside_run(&self, code: u32, row: usize) -> Beside {
-        let order = None;
-        if row >= self.0.len() / 2 {
-            return Beside {
-                order,
-                last: u32::MAX,
-            };
-        }
-        let Some(end) = u16_at(self.0, 14 + 2 * row) else {
-            return Beside {
-                order,
-                last: u32::MAX,
-            };
-        };
-        let end = u32::from(end);
-        if end < code {
-            return Beside {
-                order: Some(Ordering::Greater),
-                last: u32::MAX,
-            };
-        }
-        match number_of_list(self.0, 1, row) {
-            None => Beside { order, last: end },
-            Some(start) if code < u32::from(start) => Beside {
-                order: Some(Ordering::Less),
-                last: end.min(u32::from(start) - 1),
-            },
-            Some(_) => Beside {
-                order: Some(Ordering::Equal),
-                last: end,
-            },
-        }
-    }
-}
-
-/// How many segments there are: the table has twice that number.
-#[tactic(auto, unfolding(crate::specs::Subtables::segment_count))]
-fn segment_count(table: &[u8]) -> usize
-    ensures is { result ≡ segment_count table.now }
-    ensures small { result < 32768 }
-{
-    count_16(table, 6) / 2
-}
-
-/// The number at a place of a list behind the ends: starts (1), deltas (2), range offsets and then glyphs (3).
-#[tactic(auto, using(crate::proofs::Outside::number_of_list_outside), unfolding(crate::specs::Subtables::number_of_list))]
-fn number_of_list(table: &[u8], list: usize, place: usize) -> Option<u16>
-    requires { list < 4 }
-    ensures { result ≡ number_of_list table.now list place }
-{
-    if place < table.len() / 2 {
-        u16_at(table, 16 + list * (2 * segment_count(table)) + 2 * place)
-    } else {
-        None
-    }
-}
+use crate::runs::{FIRST_COUNT, row_run};
+use crate::segment_lists::Segments;
 
 /// The glyph that stands so many places behind the range offset of a row: behind all of the range offsets.
 #[tactic(auto, unfolding(crate::specs::Subtables::glyph_behind_range_offset))]
-fn glyph_behind_range_offset(table: &[u8], row: usize, distance: usize) -> Option<u16>
-    requires row { row < 2 ^ 62 }
-    requires distance { distance < 2 ^ 62 }
-    ensures { result ≡ glyph_behind_range_offset table.now row distance }
+fn glyph_behind_range_offset(segments: &Segments<'_>, row: u32, distance: usize) -> Option<u16>
+    requires { distance < 2 ^ 36 }
+    ensures { result ≡ glyph_behind_range_offset segments.now.table.now row distance }
 {
-    if row + distance < segment_count(table) {
+    let place = row as usize + distance;
+    if place < segments.count as usize {
         None
     } else {
-        number_of_list(table, 3, row + distance)
+        segments.id_range_offset(place)
     }
 }
 
@@ -117,7 +33,7 @@ fn with_delta(delta: u16, number: u32) -> Option<u16>
 /// A segment: its number, its start, its delta and its range offset.
 #[derive(Clone, Copy)]
 struct Segment {
-    row: usize,
+    row: u32,
     start: u32,
     delta: u16,
     range_offset: u16,
@@ -125,9 +41,8 @@ struct Segment {
 
 /// The glyph that a segment gives to a code that it reaches.
 #[tactic(auto, unfolding(crate::specs::Subtables::glyph_in_segment))]
-fn glyph_in_segment(table: &[u8], code: u32, segment: &Segment) -> Option<u16>
-    requires { segment.now.row < 2 ^ 62 }
-    ensures { result ≡ glyph_in_segment table.now code segment.now.row segment.now.start
+fn glyph_in_segment(segments: &Segments<'_>, code: u32, segment: &Segment) -> Option<u16>
+    ensures { result ≡ glyph_in_segment segments.now.table.now code segment.now.row segment.now.start
         segment.now.delta segment.now.range_offset }
 {
     if code < segment.start {
@@ -137,49 +52,34 @@ fn glyph_in_segment(table: &[u8], code: u32, segment: &Segment) -> Option<u16>
         return with_delta(segment.delta, code);
     }
     let distance = usize::from(segment.range_offset / 2) + (code - segment.start) as usize;
-    let number = glyph_behind_range_offset(table, segment.row, distance)?;
+    let number = glyph_behind_range_offset(segments, segment.row, distance)?;
     let glyph = some_glyph(u64::from(number))?;
     with_delta(segment.delta, u32::from(glyph))
 }
 
 /// The number of that glyph; 0 where there is none.
 #[tactic(auto, using(crate::proofs::Numbers::some_glyph_in_segment))]
-fn number_in_segment(table: &[u8], code: u32, segment: &Segment) -> u16
-    requires { segment.now.row < 2 ^ 62 }
-    ensures { some_glyph result ≡ glyph_in_segment table.now code segment.now.row segment.now.start
+fn number_in_segment(segments: &Segments<'_>, code: u32, segment: &Segment) -> u16
+    ensures { some_glyph result ≡ glyph_in_segment segments.now.table.now code segment.now.row segment.now.start
         segment.now.delta segment.now.range_offset }
 {
-    glyph_in_segment(table, code, segment).unwrap_or(0)
+    glyph_in_segment(segments, code, segment).unwrap_or(0)
 }
 
 /// The segment of a row.
-#[tactic(auto, using(crate::proofs::Outside::segment_glyph_outside), unfolding(crate::specs::Subtables::segment_glyph))]
-fn segment_of(table: &[u8], row: usize) -> Option<Segment>
-    ensures glyphs { (code : ℕ) → glyph_of_segment table.now code result ≡ segment_glyph table.now code row }
-    ensures small { IfSome result (λ segment. segment.row < 2 ^ 62) }
+#[tactic(auto, unfolding(crate::specs::Subtables::segment_glyph))]
+fn segment_of(segments: &Segments<'_>, row: u32) -> Option<Segment>
+    ensures { (code : ℕ) → glyph_of_segment segments.now.table.now code result ≡ segment_glyph segments.now.table.now code row }
 {
-    if row >= table.len() / 2 {
-        return None;
-    }
-    let start = u32::from(number_of_list(table, 1, row)?);
-    let delta = number_of_list(table, 2, row)?;
-    let range_offset = number_of_list(table, 3, row)?;
+    let start = u32::from(segments.start_code(row)?);
+    let delta = segments.id_delta(row)?;
+    let range_offset = segments.id_range_offset(row as usize)?;
     Some(Segment {
         row,
         start,
         delta,
         range_offset,
     })
-}
-
-/// The glyph of a code by format 4.
-#[tactic(auto, unfolding(crate::specs::Subtables::segments_glyph))]
-pub(crate) fn segments_glyph(table: &[u8], code: u32) -> Option<u16>
-    ensures { result ≡ segments_glyph table.now code }
-{
-    let row = row_with(&Segments(table), segment_count(table), code)?;
-    let segment = segment_of(table, row)?;
-    glyph_in_segment(table, code, &segment)
 }
 
 /// The segment that codes have, from one on up to `last`.
@@ -190,15 +90,15 @@ struct SegmentRun {
 }
 
 /// The segment of a code and of those behind it.
+#[inline]
 #[tactic(auto, unfolding(crate::specs::Subtables::segments_glyph))]
-fn segment_run(table: &[u8], code: u32) -> SegmentRun
+fn segment_run(segments: &Segments<'_>, code: u32) -> SegmentRun
     ensures goes { code ≤ result.last }
-    ensures glyphs { IsSegmentRun table.now result code }
-    ensures small { IfSome result.segment (λ segment. segment.row < 2 ^ 62) }
+    ensures glyphs { IsSegmentRun segments.now.table.now result code }
 {
-    let run = row_run(&Segments(table), segment_count(table), code);
+    let run = row_run(segments, segments.count, code);
     let segment = match run.row {
-        Some(row) => segment_of(table, row),
+        Some(row) => segment_of(segments, row),
         None => None,
     };
     SegmentRun {
@@ -207,16 +107,25 @@ fn segment_run(table: &[u8], code: u32) -> SegmentRun
     }
 }
 
+/// The glyph of a code by format 4.
+pub(crate) fn segments_glyph(segments: &Segments<'_>, code: u32) -> Option<u16>
+    ensures { result ≡ segments_glyph segments.now.table.now code }
+{
+    let run = segment_run(segments, code);
+    let segment = run.segment?;
+    glyph_in_segment(segments, code, &segment)
+}
+
 /// The numbers of the glyphs of the first codes by format 4; 0 where a code has none.
-pub(crate) fn first_segments_glyphs(table: &[u8]) -> [u16; FIRST_COUNT]
-    ensures { (code : ℕ) → code < 128 → some_glyph (slice_index result code) ≡ segments_glyph table.now code }
+pub(crate) fn first_segments_glyphs(segments: &Segments<'_>) -> [u16; FIRST_COUNT]
+    ensures { (code : ℕ) → code < 128 → some_glyph (slice_index result code) ≡ segments_glyph segments.now.table.now code }
 {
     let mut glyphs = [0; FIRST_COUNT];
     let mut code = 0;
     while code < FIRST_COUNT {
-        let run = segment_run(table, code as u32);
+        let run = segment_run(segments, code as u32);
         let end = FIRST_COUNT.min((run.last as usize).saturating_add(1));
-        put_glyphs(&mut glyphs, code, end, table, &run);
+        put_glyphs(&mut glyphs, code, end, segments, &run);
         code = end;
     }
     glyphs
@@ -228,18 +137,17 @@ fn put_glyphs(
     glyphs: &mut [u16; FIRST_COUNT],
     start: usize,
     end: usize,
-    table: &[u8],
+    segments: &Segments<'_>,
     run: &SegmentRun,
 )
-    requires within { end ≤ 128 }
-    requires small { IfSome run.now.segment (λ segment. segment.row < 2 ^ 62) }
+    requires { end ≤ 128 }
     ensures before { (code : ℕ) → code < start → slice_index glyphs.new code ≡ slice_index glyphs.old code }
     ensures put { (code : ℕ) → start ≤ code → code < end
-        → some_glyph (slice_index glyphs.new code) ≡ glyph_of_segment table.now code run.now.segment }
+        → some_glyph (slice_index glyphs.new code) ≡ glyph_of_segment segments.now.table.now code run.now.segment }
 {
     for code in start..end {
         glyphs[code] = match &run.segment {
-            Some(segment) => number_in_segment(table, code as u32, segment),
+            Some(segment) => number_in_segment(segments, code as u32, segment),
             None => 0,
         };
     }

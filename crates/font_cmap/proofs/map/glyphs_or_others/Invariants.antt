@@ -8,5 +8,5 @@ abbrev pub invariant-loop-character : goal.invariant-loop-character
 invariant-loop-character l = record {
   long : length l.glyphs ≡ 128;
   found : (character : ℕ) → character < l.character
-      → some_glyph (slice_index l.glyphs character) ≡ glyph_index l.codes.subtable.now l.codes.encoding character;
+      → some_glyph (slice_index l.glyphs character) ≡ glyph_index l.codes.subtable.segments.table.now l.codes.encoding character;
 }

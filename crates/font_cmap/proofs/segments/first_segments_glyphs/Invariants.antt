@@ -6,7 +6,7 @@ use Rattle.font_cmap.proofs.segments.first_segments_glyphs.Given as goal
 abbrev pub invariant-loop-code : goal.invariant-loop-code
 invariant-loop-code l = record {
   long : length l.glyphs ≡ 128;
-  found : (code : ℕ) → code < l.code → some_glyph (slice_index l.glyphs code) ≡ segments_glyph l.table code;
+  found : (code : ℕ) → code < l.code → some_glyph (slice_index l.glyphs code) ≡ segments_glyph l.segments.table.now code;
 }
 
 abbrev pub decreases-loop-code : goal.decreases-loop-code

@@ -8,5 +8,5 @@ abbrev pub invariant-loop-code : goal.invariant-loop-code
 invariant-loop-code l = record {
   long : length l.glyphs ≡ 128;
   before : (code : ℕ) → code < l.start → slice_index l.glyphs code ≡ slice_index l.initial.glyphs code;
-  put : (code : ℕ) → l.start ≤ code → code < l.code → some_glyph (slice_index l.glyphs code) ≡ glyph_of_segment l.table code l.run.segment;
+  put : (code : ℕ) → l.start ≤ code → code < l.code → some_glyph (slice_index l.glyphs code) ≡ glyph_of_segment l.segments.table.now code l.run.segment;
 }

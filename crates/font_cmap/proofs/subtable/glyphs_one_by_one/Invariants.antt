@@ -6,5 +6,5 @@ use Rattle.font_cmap.proofs.subtable.glyphs_one_by_one.Given as goal
 abbrev pub invariant-loop-code : goal.invariant-loop-code
 invariant-loop-code l = record {
   long : length l.glyphs ≡ 128;
-  found : (code : ℕ) → code < l.code → some_glyph (slice_index l.glyphs code) ≡ subtable_glyph l.table code;
+  found : (code : ℕ) → code < l.code → some_glyph (slice_index l.glyphs code) ≡ subtable_glyph l.subtable.segments.table.now code;
 }

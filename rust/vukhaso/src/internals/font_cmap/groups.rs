@@ -4,10 +4,8 @@
 //! "Format 13").
 
 use crate::font_cmap::arrays::some_glyph;
-use crate::font_cmap::counts::count_32;
+use crate::font_cmap::low_numbers::low_u32_at;
 use crate::font_cmap::runs::{Beside, CodeRows, FIRST_COUNT, row_run};
-use crate::font_tables::bisection::{KeyedRows, row_with};
-use crate::font_tables::bytes::u32_at;
 use core::cmp::Ordering;
 
 /// The groups of a subtable.
@@ -18,32 +16,16 @@ struct Groups<'a>(&'a [u8]);
 /// # Proved
 ///
 /// ```text
-/// ghost beside_of = { λ groups code row. beside_group groups.0.now code row }
-/// ```
-impl KeyedRows for Groups<'_> {
-    #[inline(always)]
-    fn beside(&self, code: u32, row: usize) -> Option<Ordering> {
-        self.beside_run(code, row).order
-    }
-}
-
-///
-/// # Proved
-///
-/// ```text
 /// ghost place_of = { λ groups code row. beside_group groups.0.now code row }
 /// ```
 impl CodeRows for Groups<'_> {
     #[inline(always)]
-    fn beside_run(&self, code: u32, row: usize) -> Beside {
+    fn beside_run(&self, code: u32, row: u32) -> Beside {
         let outside = Beside {
             order: None,
             last: u32::MAX,
         };
-        if row >= self.0.len() / 12 {
-            return outside;
-        }
-        let Some(start) = u32_at(self.0, 16 + 12 * row) else {
+        let Some(start) = low_u32_at(self.0, 16 + 12 * row as usize) else {
             return outside;
         };
         if code < start {
@@ -52,7 +34,7 @@ impl CodeRows for Groups<'_> {
                 last: start - 1,
             };
         }
-        match u32_at(self.0, 20 + 12 * row) {
+        match low_u32_at(self.0, 20 + 12 * row as usize) {
             None => outside,
             Some(end) if end < code => Beside {
                 order: Some(Ordering::Greater),
@@ -67,8 +49,8 @@ impl CodeRows for Groups<'_> {
 }
 
 /// How many groups there are.
-fn group_count(table: &[u8]) -> usize {
-    count_32(table, 12)
+fn group_count(table: &[u8]) -> u32 {
+    low_u32_at(table, 12).unwrap_or(0)
 }
 
 /// The glyph that a group gives to a code that it reaches.
@@ -97,21 +79,10 @@ struct Group {
 }
 
 /// The group of a row.
-fn group_of(table: &[u8], row: usize) -> Option<Group> {
-    if row < table.len() / 12 {
-        let start = u32_at(table, 16 + 12 * row)?;
-        let glyph = u32_at(table, 24 + 12 * row)?;
-        Some(Group { start, glyph })
-    } else {
-        None
-    }
-}
-
-/// The glyph of a code by format 12 or 13.
-pub(crate) fn groups_glyph(table: &[u8], format: u16, code: u32) -> Option<u16> {
-    let row = row_with(&Groups(table), group_count(table), code)?;
-    let group = group_of(table, row)?;
-    glyph_in_group(format, code, group.start, group.glyph)
+fn group_of(table: &[u8], row: u32) -> Option<Group> {
+    let start = low_u32_at(table, 16 + 12 * row as usize)?;
+    let glyph = low_u32_at(table, 24 + 12 * row as usize)?;
+    Some(Group { start, glyph })
 }
 
 /// The group that codes have, from one on up to `last`.
@@ -122,6 +93,7 @@ struct GroupRun {
 }
 
 /// The group of a code and of those behind it.
+#[inline(always)]
 fn group_run(table: &[u8], code: u32) -> GroupRun {
     let run = row_run(&Groups(table), group_count(table), code);
     let group = match run.row {
@@ -132,6 +104,13 @@ fn group_run(table: &[u8], code: u32) -> GroupRun {
         group,
         last: run.last,
     }
+}
+
+/// The glyph of a code by format 12 or 13.
+pub(crate) fn groups_glyph(table: &[u8], format: u16, code: u32) -> Option<u16> {
+    let run = group_run(table, code);
+    let group = run.group?;
+    glyph_in_group(format, code, group.start, group.glyph)
 }
 
 /// The numbers of the glyphs of the first codes by format 12 or 13; 0 where a code has none.

@@ -7,13 +7,13 @@ use crate::font_cmap::arrays::some_glyph;
 use crate::font_cmap::choice::{choose, variation_subtable};
 use crate::font_cmap::codes::{Encoding, other_code, own_code};
 use crate::font_cmap::runs::FIRST_COUNT;
-use crate::font_cmap::subtable::{first_subtable_glyphs, subtable_glyph};
+use crate::font_cmap::subtable::{Subtable, first_subtable_glyphs, subtable_glyph};
 use crate::font_cmap::variations::{GlyphVariant, glyph_variant};
 
 /// A subtable, and what its codes stand for.
 #[derive(Clone, Copy, Debug)]
 struct Codes<'a> {
-    subtable: &'a [u8],
+    subtable: Subtable<'a>,
     encoding: Encoding,
 }
 
@@ -32,7 +32,7 @@ impl Codes<'_> {
     /// # Requires
     ///
     /// - `first: character < 128`
-    /// - `own: own ≡ subtable_glyph self.now.subtable.now character`
+    /// - `own: own ≡ subtable_glyph self.now.subtable.segments.table.now character`
     fn glyph_or_other(&self, own: Option<u16>, character: u32) -> Option<u16> {
         debug_assert!(character < 128);
         match own {
@@ -46,7 +46,7 @@ impl Codes<'_> {
     /// # Requires
     ///
     /// - `first: character < 128`
-    /// - `own: some_glyph own ≡ subtable_glyph self.now.subtable.now character`
+    /// - `own: some_glyph own ≡ subtable_glyph self.now.subtable.segments.table.now character`
     fn number_or_other(&self, own: u16, character: u32) -> u16 {
         debug_assert!(character < 128);
         let own = some_glyph(u64::from(own));
@@ -54,15 +54,16 @@ impl Codes<'_> {
     }
 
     /// The glyph of a code, if there is a code.
+    #[inline(always)]
     fn glyph_of_code(&self, code: Option<u32>) -> Option<u16> {
         let code = code?;
-        subtable_glyph(self.subtable, code)
+        subtable_glyph(&self.subtable, code)
     }
 }
 
 /// The numbers of the glyphs of the first characters; 0 where a character has none.
 fn first_glyphs(codes: &Codes<'_>) -> [u16; FIRST_COUNT] {
-    let own = first_subtable_glyphs(codes.subtable);
+    let own = first_subtable_glyphs(&codes.subtable);
     match codes.encoding {
         Encoding::Unicode => own,
         _ => glyphs_or_others(codes, &own),
@@ -73,7 +74,7 @@ fn first_glyphs(codes: &Codes<'_>) -> [u16; FIRST_COUNT] {
 ///
 /// # Requires
 ///
-/// - `(character : ℕ) → character < 128 → some_glyph (slice_index own.now character) ≡ subtable_glyph codes.now.subtable.now character`
+/// - `(character : ℕ) → character < 128 → some_glyph (slice_index own.now character) ≡ subtable_glyph codes.now.subtable.segments.table.now character`
 fn glyphs_or_others(codes: &Codes<'_>, own: &[u16; FIRST_COUNT]) -> [u16; FIRST_COUNT] {
     let mut glyphs = [0; FIRST_COUNT];
     for character in 0..FIRST_COUNT {
@@ -87,6 +88,8 @@ fn glyphs_or_others(codes: &Codes<'_>, own: &[u16; FIRST_COUNT]) -> [u16; FIRST_
 /// # Proved
 ///
 /// ```text
+/// ghost same_subtable: { codes.subtable.segments.table.now ≡ subtable.now }
+/// ghost same_encoding: { codes.encoding ≡ encoding }
 /// ghost firsts: { (character : ℕ) → character < 128
 ///     → some_glyph (slice_index first_glyphs character) ≡ glyph_index subtable.now encoding character }
 /// ```
@@ -98,6 +101,7 @@ pub struct CharacterMap<'a> {
     pub encoding: Encoding,
     /// The subtable of variation sequences, from its format on; empty where the font has none.
     pub variations: &'a [u8],
+    codes: Codes<'a>,
     first_glyphs: [u16; FIRST_COUNT],
 }
 
@@ -122,14 +126,15 @@ impl<'a> CharacterMap<'a> {
     pub fn parse(cmap: &'a [u8], font_page: u16) -> Self {
         let choice = choose(cmap, font_page);
         let codes = Codes {
-            subtable: choice.subtable,
+            subtable: Subtable::new(choice.subtable),
             encoding: choice.encoding,
         };
         CharacterMap {
-            subtable: codes.subtable,
-            encoding: codes.encoding,
+            subtable: choice.subtable,
+            encoding: choice.encoding,
             variations: variation_subtable(cmap),
             first_glyphs: first_glyphs(&codes),
+            codes,
         }
     }
 
@@ -145,17 +150,9 @@ impl<'a> CharacterMap<'a> {
     pub fn glyph_index(&self, character: u32) -> Option<GlyphId> {
         let glyph = match self.first_glyphs.get(character as usize) {
             Some(number) => some_glyph(u64::from(*number)),
-            None => self.codes().glyph_of(character),
+            None => self.codes.glyph_of(character),
         };
         glyph.map(GlyphId)
-    }
-
-    /// How a glyph is found.
-    fn codes(&self) -> Codes<'a> {
-        Codes {
-            subtable: self.subtable,
-            encoding: self.encoding,
-        }
     }
 
     /// What the font says of a character before a variation selector.

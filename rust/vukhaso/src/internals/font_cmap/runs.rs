@@ -26,19 +26,20 @@ pub(crate) trait CodeRows {
     /// ensures goes { code ≤ result.last }
     /// ensures alike { (other : ℕ) → code ≤ other → other ≤ result.last → place_of self.now other row ≡ place_of self.now code row }
     /// ```
-    fn beside_run(&self, code: u32, row: usize) -> Beside;
+    fn beside_run(&self, code: u32, row: u32) -> Beside;
 }
 
 /// The row that codes have, from one on up to `last`.
 #[derive(Clone, Copy, Debug)]
 pub(crate) struct RowRun {
-    pub(crate) row: Option<usize>,
+    pub(crate) row: Option<u32>,
     pub(crate) last: u32,
 }
 
 /// The row that holds a code among the first `count` rows, as bisection finds it, and the last code for
 /// which it goes the same way.
-pub(crate) fn row_run<R: CodeRows>(rows: &R, count: usize, code: u32) -> RowRun {
+#[inline(always)]
+pub(crate) fn row_run<R: CodeRows>(rows: &R, count: u32, code: u32) -> RowRun {
     let mut low = 0;
     let mut high = count;
     let mut last = u32::MAX;
