@@ -6,7 +6,9 @@ use vukhaso::internals::glyph::hb_glyph_info_t;
 use vukhaso::internals::glyph_digests::Digest;
 use vukhaso::internals::ot_layout::{ApplyContext, Budget, Search, SkippingIterator};
 use vukhaso::internals::ot_lookups::LookupList;
-use vukhaso::internals::ot_lookups::subtable::{Form, positioning_form, substitution_form};
+use vukhaso::internals::ot_lookups::subtable::{
+    SubtableFormat, positioning_form, substitution_form,
+};
 use vukhaso::internals::ot_substitution::substitution::{Edit, edit_at};
 use vukhaso::internals::ot_substitution::would_substitute;
 use vukhaso::memory::AllocError;
@@ -220,24 +222,24 @@ fn lookups_are_for_glyphs() -> Result<(), AllocError> {
 }
 
 /// Kinds and formats, and what their subtables hold.
-static SUBSTITUTIONS: [(u16, u16, Form); 7] = [
-    (1, 2, Form::Plain),
-    (5, 1, Form::Glyphs),
-    (5, 2, Form::Classes),
-    (6, 2, Form::ChainedClasses),
-    (5, 3, Form::Coverages),
-    (6, 3, Form::ChainedCoverages),
-    (8, 1, Form::Reverse),
+static SUBSTITUTIONS: [(u16, u16, SubtableFormat); 7] = [
+    (1, 2, SubtableFormat::Plain),
+    (5, 1, SubtableFormat::Glyphs),
+    (5, 2, SubtableFormat::Classes),
+    (6, 2, SubtableFormat::ChainedClasses),
+    (5, 3, SubtableFormat::Coverages),
+    (6, 3, SubtableFormat::ChainedCoverages),
+    (8, 1, SubtableFormat::Reverse),
 ];
 
 /// The same of `GPOS`, where contexts have other kinds.
-static POSITIONS: [(u16, u16, Form); 6] = [
-    (2, 1, Form::Plain),
-    (2, 2, Form::PairClasses),
-    (5, 1, Form::Marks),
-    (7, 2, Form::Classes),
-    (8, 2, Form::ChainedClasses),
-    (8, 3, Form::ChainedCoverages),
+static POSITIONS: [(u16, u16, SubtableFormat); 6] = [
+    (2, 1, SubtableFormat::Plain),
+    (2, 2, SubtableFormat::PairClasses),
+    (5, 1, SubtableFormat::Marks),
+    (7, 2, SubtableFormat::Classes),
+    (8, 2, SubtableFormat::ChainedClasses),
+    (8, 3, SubtableFormat::ChainedCoverages),
 ];
 
 #[test]
