@@ -55,18 +55,32 @@ fn is_idle(face: &Face, mask: u32) -> bool
 fn space_of(face: &Face, is_horizontal: bool) -> Space
     ensures { result ≡ space_of face.now is_horizontal }
 {
+    let units = units_of(face, is_horizontal);
+    Space {
+        is_horizontal,
+        advance: at_size(face, is_horizontal, units),
+        offset: at_size(face, is_horizontal, units / 2),
+    }
+}
+
+/// How many font units the table adds at the size of a font in points.
+fn units_of(face: &Face, is_horizontal: bool) -> i32
+    ensures { result ≡ tracking.units_of face.now is_horizontal }
+{
+    Tracking::new(face.layout.trak).at(is_horizontal, face.points_per_em)
+}
+
+/// Font units along the line, at the size of the font.
+fn at_size(face: &Face, is_horizontal: bool, units: i32) -> i32
+    ensures { result ≡ tracking.at_size face.now is_horizontal units }
+{
     let tracking = Tracking::new(face.layout.trak);
-    let units = tracking.at(is_horizontal, face.points_per_em);
     let size = if is_horizontal {
         face.scale.x
     } else {
         face.scale.y
     };
-    Space {
-        is_horizontal,
-        advance: tracking.scaled(units, size, face.units_per_em),
-        offset: tracking.scaled(units / 2, size, face.units_per_em),
-    }
+    tracking.scaled(units, size, face.units_per_em)
 }
 
 /// Moves the glyphs that begin a grapheme, and have a bit of the mask.
