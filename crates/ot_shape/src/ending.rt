@@ -75,7 +75,7 @@ fn hide_glyphs<F: FontFunctions>(buffer: &mut hb_buffer_t, font: &F, plan: &Text
 fn hide_unseen<F: FontFunctions>(buffer: &mut hb_buffer_t, font: &F)
     requires closed { buffer.old.have_output ≡ false }
     requires placed { IsSome buffer.old.positions }
-    ensures hides { Hides (F.has font.now) (show_variation_selectors buffer.old) buffer.new }
+    ensures hides { Hides (F.has font.now) (F.may_have font.now) (show_variation_selectors buffer.old) buffer.new }
     ensures closed { buffer.new.have_output ≡ false }
     ensures placed { IsSome buffer.new.positions }
     ensures keeps { KeepsClusters buffer.old buffer.new }
