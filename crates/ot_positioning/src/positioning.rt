@@ -4,6 +4,7 @@ ghost use Rattle.std.specs.Prelude.{◌≡◌, ◌↔◌, false, IfOk, IsSome, I
 ghost use Rattle.script_shapers.specs.Shapers.{width_of};
 ghost use Rattle.shaping_buffer.specs.KeepsClusters.{KeepsClusters};
 
+use crate::fallback_marks::position_marks;
 use crate::lookups::position_by_lookups;
 use font_face::Face;
 use font_functions::FontFunctions;
@@ -11,7 +12,7 @@ use ot_attachments::position_finish_offsets;
 use ot_map::OtShapePlan;
 use ot_plan::{Step, TextPlan, Watch};
 use ot_positions::{
-    position_glyphs, position_marks, track, zero_mark_widths, zero_width_default_ignorables,
+    position_glyphs, track, zero_mark_widths, zero_width_default_ignorables,
     zero_width_deleted_glyphs,
 };
 use script_shapers::ZeroWidthMarks;

@@ -3,6 +3,5 @@ pub mod ClusterFlags
 pub mod Ending
 pub mod FallbackMarks
 pub mod FontPositions
-pub mod MarkPlacing
 pub mod Tracking
 pub mod Widths

@@ -1,7 +1,7 @@
 //! The widths of spaces that a font has no glyph for (HarfBuzz's `_hb_ot_shape_fallback_spaces`).
 
-ghost use Rattle.std.specs.Prelude.{◌≡◌, ◌^◌, ◌≤ℤ◌, pos, negsuc};
-ghost use Rattle.ot_positions.specs.FontPositions.{AreTheFonts};
+ghost use Rattle.std.specs.Prelude.{◌≡◌, ◌^◌, ◌≤ℤ◌, ◌&&◌, pos, negsuc};
+ghost use Rattle.ot_positions.specs.FontPositions.{AreTheFonts, is_lone_space};
 
 use crate::glyph_info::has_ligated;
 use crate::kept_positions::FontPositions;
@@ -16,9 +16,15 @@ use shaping_buffer::rb_glyph::hb_unicode_funcs_t::{
 };
 use std::alloc::AllocError;
 
-/// The advance of a glyph, of which the font says `own`. If it stands for a space that the font has no glyph for, the kind of
-/// the space decides: it is a part of an em, or that of another character. A space of no such kind that has the buffer's
-/// invisible glyph is a quarter of an em.
+/// Whether an item may be a space that the font has no glyph for, if the text has some: a space that no lookup made from several glyphs.
+pub(crate) fn is_fallback_space(info: &hb_glyph_info_t, has_spaces: bool) -> bool
+    ensures { result ≡ (has_spaces && is_lone_space info.now) }
+{
+    has_spaces && is_unicode_space(info) && !has_ligated(info)
+}
+
+/// The advance of a space that the font may have no glyph for; of its glyph the font says `own`. The kind of the space decides: it is a
+/// part of an em, or that of another character. A space of no such kind that has the buffer's invisible glyph is a quarter of an em.
 pub(crate) fn space_advance<F: FontFunctions>(
     info: &hb_glyph_info_t,
     own: i32,
@@ -30,9 +36,6 @@ pub(crate) fn space_advance<F: FontFunctions>(
     ensures font { positions.new.font ≡ positions.old.font }
     ensures direction { positions.new.is_horizontal ≡ positions.old.is_horizontal }
 {
-    if !is_unicode_space(info) || has_ligated(info) {
-        return Ok(own);
-    }
     let is_horizontal = positions.is_horizontal;
     let em = em_along(positions.face, is_horizontal);
     let is_invisible = invisible.is_some_and(|glyph| u32::from(glyph.0) == info.glyph_id);

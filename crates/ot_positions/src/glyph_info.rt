@@ -1,6 +1,7 @@
 //! What is asked of a glyph where it is placed: what its font and its lookups say of it.
 
 ghost use Rattle.std.specs.Prelude.{◌≡◌};
+ghost use Rattle.ot_positions.specs.FontPositions as font_positions;
 ghost use Rattle.ot_positions.specs.Widths as widths;
 
 use shaping_buffer::{Flags, GlyphPropsFlags, UnicodeProps, hb_glyph_info_t};
@@ -22,6 +23,8 @@ pub(crate) fn is_mark(info: &hb_glyph_info_t) -> bool
 }
 
 /// Whether a lookup made the glyph from several, and did not take it apart again.
-pub(crate) fn has_ligated(info: &hb_glyph_info_t) -> bool {
+pub(crate) fn has_ligated(info: &hb_glyph_info_t) -> bool
+    ensures { result ≡ font_positions.has_ligated info.now }
+{
     info.glyph_props() & GlyphPropsFlags::LIGATED.bits() != 0
 }

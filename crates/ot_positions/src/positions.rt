@@ -1,15 +1,15 @@
 //! Where glyphs stand before any lookup moves them.
 
-ghost use Rattle.std.specs.Prelude.{◌≡◌, ◌<◌, true, false, not, replicate, slice_index_or, length, IfOk, IfSome, IsSome, Some};
+ghost use Rattle.std.specs.Prelude.{◌≡◌, ◌<◌, Bool, true, false, replicate, slice_index_or, length, IfOk, IfSome, IsSome, Some};
 ghost use Rattle.glyph_lists.specs.Clusters.{zero_glyph};
 ghost use Rattle.ot_positions.specs.ChangedAt.{changed_at, position_changed};
 ghost use Rattle.ot_positions.specs.FontPositions as font_positions;
-ghost use Rattle.ot_positions.specs.FontPositions.{AreAdvanced, AreTheFonts, IsAdvanced, IsTheFonts, has_no_fallback_spaces};
+ghost use Rattle.ot_positions.specs.FontPositions.{AreAdvanced, AreTheFonts, IsAdvanced, IsPlaced, has_fallback_spaces};
 ghost use Rattle.rb_common.specs.Direction.{is_horizontal};
 ghost use Rattle.shaping_buffer.specs.KeepsClusters.{KeepsClusters};
 ghost use Rattle.shaping_buffer.specs.Positions.{zero_position};
 
-use crate::fallback_spaces::space_advance;
+use crate::fallback_spaces::{is_fallback_space, space_advance};
 use crate::kept_positions::FontPositions;
 use font_face::Face;
 use font_functions::FontFunctions;
@@ -29,8 +29,8 @@ pub fn position_glyphs<F: FontFunctions>(
     font: &F,
 ) -> Result<(), AllocError>
     requires { buffer.old.have_output ≡ false }
-    ensures advances { is_horizontal buffer.old.direction ≡ true → has_no_fallback_spaces buffer.old ≡ true
-        → IfOk result (λ _. IfSome buffer.new.positions (AreAdvanced (F.may_advance font.now) buffer.old.input)) }
+    ensures advances { is_horizontal buffer.old.direction ≡ true → IfOk result (λ _. IfSome buffer.new.positions
+        (AreAdvanced (F.may_advance font.now) (has_fallback_spaces buffer.old) buffer.old.input)) }
     ensures rest { buffer.new ≡ record buffer.old { positions = buffer.new.positions } }
     ensures closed { buffer.new.have_output ≡ false }
     ensures placed { IsSome buffer.new.positions }
@@ -57,7 +57,7 @@ pub(crate) fn is_horizontal_line(buffer: &hb_buffer_t) -> bool
 
 /// Whether some character is a space that the font has no glyph for.
 fn has_fallback_spaces(buffer: &hb_buffer_t) -> bool
-    ensures { result ≡ not (has_no_fallback_spaces buffer.now) }
+    ensures { result ≡ has_fallback_spaces buffer.now }
 {
     buffer.scratch_flags & HB_BUFFER_SCRATCH_FLAG_HAS_SPACE_FALLBACK != 0
 }
@@ -72,8 +72,8 @@ fn place_glyphs<F: FontFunctions>(
     requires closed { buffer.old.have_output ≡ false }
     requires zero { buffer.old.positions ≡ Some (replicate (length buffer.old.input) zero_position) }
     requires kept { AreTheFonts (F.may_advance positions.old.font.now) positions.old.is_horizontal positions.old.kept }
-    ensures advances { positions.old.is_horizontal ≡ true → has_spaces ≡ false
-        → IfOk result (λ _. IfSome buffer.new.positions (AreAdvanced (F.may_advance positions.old.font.now) buffer.old.input)) }
+    ensures advances { positions.old.is_horizontal ≡ true → IfOk result (λ _. IfSome buffer.new.positions
+        (AreAdvanced (F.may_advance positions.old.font.now) has_spaces buffer.old.input)) }
     ensures rest { buffer.new ≡ record buffer.old { positions = buffer.new.positions } }
     ensures placed { IsSome buffer.new.positions }
 {
@@ -96,15 +96,19 @@ fn position_of<F: FontFunctions>(
     ensures kept { AreTheFonts (F.may_advance positions.new.font.now) positions.new.is_horizontal positions.new.kept }
     ensures font { positions.new.font ≡ positions.old.font }
     ensures direction { positions.new.is_horizontal ≡ positions.old.is_horizontal }
-    ensures position { may_be_space ≡ false → IfOk result (λ position.
-        IsTheFonts (F.may_advance positions.old.font.now) positions.old.is_horizontal (font_positions.glyph_of info.now) position) }
+    ensures position { positions.old.is_horizontal ≡ true → IfOk result
+        (IsPlaced (F.may_advance positions.old.font.now) may_be_space info.now) }
 {
     let mut position = positions.position(glyph_of(info))?;
-    if !may_be_space {
+    let is_space = is_fallback_space(info, may_be_space);
+    if !is_space {
         return Ok(position);
     }
-    let advance = advance_of(&mut position, positions.is_horizontal);
-    *advance = space_advance(info, *advance, positions, invisible)?;
+    if positions.is_horizontal {
+        position.x_advance = space_advance(info, position.x_advance, positions, invisible)?;
+        return Ok(position);
+    }
+    position.y_advance = space_advance(info, position.y_advance, positions, invisible)?;
     Ok(position)
 }
 
@@ -113,7 +117,7 @@ fn position_of<F: FontFunctions>(
 fn advance_glyphs<F: FontFunctions>(buffer: &mut hb_buffer_t, font: &F)
     requires closed { buffer.old.have_output ≡ false }
     requires zero { buffer.old.positions ≡ Some (replicate (length buffer.old.input) zero_position) }
-    ensures advances { IfSome buffer.new.positions (AreAdvanced (F.may_advance font.now) buffer.old.input) }
+    ensures advances { (lacks : Bool) → IfSome buffer.new.positions (AreAdvanced (F.may_advance font.now) lacks buffer.old.input) }
     ensures rest { buffer.new ≡ record buffer.old { positions = buffer.new.positions } }
     ensures placed { IsSome buffer.new.positions }
 {
@@ -151,10 +155,10 @@ fn glyph_of(info: &hb_glyph_info_t) -> GlyphId
     GlyphId(u16::try_from(info.glyph_id).unwrap_or(0))
 }
 
-/// Sets the position at a place.
+/// Sets the position at a place. Requires positions, and that no output is open.
 #[inline]
 #[tactic(auto, using(crate::proofs::WidthsLemmas::written))]
-fn set_position(buffer: &mut hb_buffer_t, place: usize, position: GlyphPosition)
+pub fn set_position(buffer: &mut hb_buffer_t, place: usize, position: GlyphPosition)
     requires closed { buffer.old.have_output ≡ false }
     requires placed { IsSome buffer.old.positions }
     ensures is { buffer.new ≡ position_changed (λ _. position) place buffer.old }
@@ -170,14 +174,5 @@ fn set_in(positions: &mut [GlyphPosition], place: usize, position: GlyphPosition
 {
     if place < positions.len() {
         positions[place] = position;
-    }
-}
-
-/// The advance in the direction of the line.
-fn advance_of(position: &mut GlyphPosition, is_horizontal: bool) -> &mut i32 {
-    if is_horizontal {
-        &mut position.x_advance
-    } else {
-        &mut position.y_advance
     }
 }

@@ -52,8 +52,8 @@ fn narrow(positions: &mut [GlyphPosition], place: usize, adjusts: bool)
     }
 }
 
-/// Takes the advance of a mark.
-pub(crate) fn zero_mark_width(position: &mut GlyphPosition, adjusts: bool)
+/// Takes the advance of a mark; moves the mark back by it if `adjusts` says so.
+pub fn zero_mark_width(position: &mut GlyphPosition, adjusts: bool)
     ensures { position.new ≡ without_advance adjusts position.old }
 {
     if adjusts {

@@ -1,4 +1,4 @@
-use Rattle.std.proofs.Common.{◌≡◌, true, false, IsSome}
+use Rattle.std.proofs.Common.{◌≡◌, true, IsSome}
 use Rattle.std.specs.Prelude.{IfSome}
 use Rattle.ot_positions.specs.FontPositions.{AreTheFonts}
 use Rattle.ot_positions.proofs.AdvanceLemmas.{AreAdvancedTo}
@@ -12,6 +12,6 @@ invariant-loop-i g l = record {
   kept : AreTheFonts (g.F.FontFunctions.may_advance l.positions.font.now) l.positions.is_horizontal l.positions.kept;
   font : l.positions.font ≡ l.fn.positions.font;
   direction : l.positions.is_horizontal ≡ l.fn.positions.is_horizontal;
-  advanced : l.fn.positions.is_horizontal ≡ true → l.has_spaces ≡ false
-      → IfSome l.buffer.positions (AreAdvancedTo (g.F.FontFunctions.may_advance l.fn.positions.font.now) l.i l.fn.buffer.input);
+  advanced : l.fn.positions.is_horizontal ≡ true → IfSome l.buffer.positions
+      (AreAdvancedTo (g.F.FontFunctions.may_advance l.fn.positions.font.now) l.has_spaces l.i l.fn.buffer.input);
 }

@@ -1,7 +1,7 @@
 //! A mark beside, under or over others, by the bounds of all and by the mark's combining class (Unicode Standard, "Combining Classes").
 
 ghost use Rattle.std.specs.Prelude.{◌≡◌};
-ghost use Rattle.ot_positions.specs.MarkPlacing as placing;
+ghost use Rattle.ot_positioning.specs.MarkPlacing as placing;
 
 use rb_common::Direction;
 use rb_glyph::GlyphExtents;

@@ -1,7 +1,7 @@
 //! Where marks stand around a base, by the bounds of both and by combining classes.
 
 ghost use Rattle.std.specs.Prelude.{◌≡◌, ◌≤◌};
-ghost use Rattle.ot_positions.specs.MarkPlacing as placing;
+ghost use Rattle.ot_positioning.specs.MarkPlacing as placing;
 
 use crate::mark_stack::{across, stack_up};
 use ot_layout::ligature_parts::{ligature_component, ligature_id};

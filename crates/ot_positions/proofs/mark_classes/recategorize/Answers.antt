@@ -2,7 +2,7 @@ use Rattle.std.proofs.Common.{ℕ, sym, ap, ◌∙◌}
 use Rattle.script_items.specs.Marks.{with_class}
 use Rattle.ot_positions.specs.FallbackMarks.{fallback_class}
 use Rattle.ot_positions.proofs.MappedLemmas.{recategorized-mark, recategorized-other}
-use Rattle.ot_positions.proofs.fallback_marks.recategorize.Goals as goal
+use Rattle.ot_positions.proofs.mark_classes.recategorize.Goals as goal
 
 pub returns-then-is_nonspacing_mark : goal.returns-then-is_nonspacing_mark
 returns-then-is_nonspacing_mark c =

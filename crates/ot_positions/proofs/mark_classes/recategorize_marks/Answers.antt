@@ -1,6 +1,6 @@
 use Rattle.ot_positions.specs.FallbackMarks.{recategorized}
 use Rattle.ot_positions.proofs.MappedLemmas.{keeps_mapped, recategorized-cluster}
-use Rattle.ot_positions.proofs.fallback_marks.recategorize_marks.Goals as goal
+use Rattle.ot_positions.proofs.mark_classes.recategorize_marks.Goals as goal
 
 pub returns-clause-keeps : goal.returns-clause-keeps
 returns-clause-keeps c =

@@ -1,6 +1,8 @@
 -- Where marks stand around a base, by the bounds of both and by combining classes (HarfBuzz, `position_around_base`, `position_mark`;
 -- Unicode Standard, "Combining Classes").
-use Rattle.std.specs.Prelude.{◌≡◌, ◌≢◌, ℕ, ℤ, pos, negsuc, Bool, true, false, not, ◌==◌, ◌||◌, ◌-ℤ◌, int_div, int_le, int_lt, nat_lt, Option, None, Some, if◌then◌else◌}
+use Rattle.std.specs.Prelude.{◌≡◌, ◌≢◌, ◌<◌, ◌≤◌, ◌+◌, ◌-◌, ℕ, zero, suc, ℤ, pos, negsuc, Bool, true, false, not, ◌==◌, ◌||◌, ◌-ℤ◌, int_div, int_le, int_lt, nat_lt, if◌then◌else◌, ⊤}
+use Rattle.std.specs.Prelude.{List, [], drop, length, slice_index_or, Option, None, Some, unwrap_or}
+use Rattle.std.specs.List.{prefix_len}
 use Rattle.std.specs.Int.{w32, int_wrapping_add, int_wrapping_mul, int_wrapping_neg, int_wrapping_sub}
 use Rattle.std.specs.Ordering.{int_eq}
 use Rattle.rb_common.specs.Direction.{direction_of, is_forward, is_horizontal}
@@ -9,11 +11,17 @@ use Rattle.rb_common.specs.declared.direction.Direction.TheVariants.{Invalid, Le
 use Rattle.rb_glyph.specs.declared.info.hb_glyph_info_t.{hb_glyph_info_t}
 use Rattle.rb_glyph.specs.declared.names.GlyphExtents.{GlyphExtents}
 use Rattle.rb_glyph.specs.declared.position.GlyphPosition.{GlyphPosition}
-use Rattle.ot_layout.specs.LigatureParts.{ligature_component, ligature_id}
-use Rattle.script_items.specs.Marks.{kept_class}
+use Rattle.ot_attachments.specs.Flags.{break_marked}
+use Rattle.ot_layout.specs.LigatureParts.{component_count, ligature_component, ligature_id}
+use Rattle.ot_lookups.specs.LookupProps.{glyph_at}
+use Rattle.ot_positions.specs.ChangedAt.{position_changed}
+use Rattle.ot_positions.specs.Widths.{without_advance}
+use Rattle.script_items.specs.Marks.{is_mark, is_nonspacing, kept_class}
+use Rattle.shaping_buffer.specs.ClusterStep.{unsafe_to_concat}
+use Rattle.shaping_buffer.specs.Positions.{zero_position}
 use Rattle.shaping_buffer.specs.State.{State}
-use Rattle.ot_positions.specs.declared.mark_placing.Line.{Line}
-use Rattle.ot_positions.specs.declared.mark_placing.Marks.{Marks}
+use Rattle.ot_positioning.specs.declared.mark_placing.Line.{Line}
+use Rattle.ot_positioning.specs.declared.mark_placing.Marks.{Marks}
 
 -- ---- combining classes
 
@@ -286,3 +294,84 @@ pub record IsPlaced (g : hb_glyph_info_t) (old : Marks) (from : GlyphPosition) (
   pub item : kept_class g ≡ 0 → (new ≡ passed from old) × (to ≡ from)
   pub mark : kept_class g ≢ 0
       → (bounds : Option GlyphExtents) × ((new ≡ marks_with g bounds old) × (to ≡ placed_by g bounds old from))
+
+-- What marks are put around, with none yet: an item at its position. The font may have no bounds of it.
+pub record IsBegunBy (may_advance : ℕ → ℤ → Type 0) (line : Line) (g : hb_glyph_info_t) (p : GlyphPosition) (m : Marks) : Type 0 where
+  pub bounds : GlyphExtents
+  pub base : GlyphExtents
+  pub stands : IsBase (may_advance g.glyph_id) bounds p base
+  pub is : m ≡ no_marks line base p (ligature_id g, component_count g)
+
+abbrev pub IsBegun : (ℕ → ℤ → Type 0) → Line → hb_glyph_info_t → GlyphPosition → Option Marks → Type 0
+IsBegun may_advance line g p None = ⊤
+IsBegun may_advance line g p (Some m) = IsBegunBy may_advance line g p m
+
+-- An item behind a base. Where there is nothing to put marks around, those without width take no room.
+abbrev pub IsBehind : Bool → hb_glyph_info_t → Option Marks → GlyphPosition → Option Marks → GlyphPosition → Type 0
+IsBehind adjusts g None from None to = to ≡ (if is_nonspacing g then without_advance adjusts from else from)
+IsBehind adjusts g None from (Some new) to = ⊥
+IsBehind adjusts g (Some old) from None to = ⊥
+IsBehind adjusts g (Some old) from (Some new) to = IsPlaced g old from new to
+
+-- ---- the marks of a text
+
+-- where the marks end that stand behind an item; behind a mark there are none of its own
+abbrev pub marks_end : List hb_glyph_info_t → ℕ → ℕ
+marks_end gs place =
+    if is_mark (glyph_at gs place) then place + 1 else place + 1 + prefix_len is_mark (drop (place + 1) gs)
+
+abbrev pub position_at : ℕ → State → GlyphPosition
+position_at place s = slice_index_or (unwrap_or s.positions []) place zero_position
+
+-- one step of a text, and of what marks are put around, and then others
+pub record IsThen (one others : State → Option Marks → Type 0) : Type 0 where
+  pub mid : State
+  pub marks : Option Marks
+  pub first : one mid marks
+  pub rest : others mid marks
+
+-- the item at a place behind a base: its position alone changes
+pub record IsPlacedAt (adjusts : Bool) (place : ℕ) (old : State) (m : Option Marks) (new : State) (n : Option Marks) : Type 0 where
+  pub position : GlyphPosition
+  pub placed : IsBehind adjusts (glyph_at old.input place) m (position_at place old) n position
+  pub changed : new ≡ position_changed (λ _. position) place old
+
+-- so many of them from a place on, one after the other
+unfoldable pub ArePlaced : Bool → ℕ → ℕ → State → Option Marks → State → Type 0
+ArePlaced adjusts zero place old m new = new ≡ old
+ArePlaced adjusts (suc count) place old m new =
+    IsThen (IsPlacedAt adjusts place old m) (λ mid n. ArePlaced adjusts count (place + 1) mid n new)
+
+-- the marks of a base, which end before a place
+pub record IsPutAround (may_advance : ℕ → ℤ → Type 0) (line : Line) (adjusts : Bool) (place end : ℕ) (old new : State) : Type 0 where
+  pub marks : Option Marks
+  pub begun : IsBegun may_advance line (glyph_at old.input place) (position_at place old) marks
+  pub placed : ArePlaced adjusts (end - (place + 1)) (place + 1) old marks new
+
+-- an item of a text: if it is a base that has marks, the text is not to be broken between them, and they are put around it
+pub record IsDoneAt (may_advance : ℕ → ℤ → Type 0) (line : Line) (adjusts : Bool) (place : ℕ) (old new : State) : Type 0 where
+  pub none : marks_end old.input place ≤ place + 1 → new ≡ old
+  pub some : place + 1 < marks_end old.input place
+      → IsPutAround may_advance line adjusts place (marks_end old.input place)
+      (break_marked place (marks_end old.input place) old) new
+
+pub record IsDoneThen (one others : State → Type 0) : Type 0 where
+  pub mid : State
+  pub first : one mid
+  pub rest : others mid
+
+-- so many items from a place on, one after the other
+unfoldable pub AreDone : (ℕ → ℤ → Type 0) → Line → Bool → ℕ → ℕ → State → State → Type 0
+AreDone may_advance line adjusts zero place old new = new ≡ old
+AreDone may_advance line adjusts (suc count) place old new =
+    IsDoneThen (IsDoneAt may_advance line adjusts place old)
+    (λ mid. AreDone may_advance line adjusts count (place + 1) mid new)
+
+-- marks that begin the text have no base: behind another text they might have one
+abbrev pub baseless_marked : State → State
+baseless_marked s = unsafe_to_concat (Some 0) (Some (prefix_len is_mark s.input)) s
+
+-- `position_marks`
+abbrev pub AreMarksPlaced : (ℕ → ℤ → Type 0) → Line → Bool → State → State → Type 0
+AreMarksPlaced may_advance line adjusts old new =
+    let s = baseless_marked old in AreDone may_advance line adjusts (length s.input) 0 s new

@@ -1,0 +1,3 @@
+-- Why marks are put around their bases one after the other (`MarkLemmas`).
+
+pub mod MarkLemmas

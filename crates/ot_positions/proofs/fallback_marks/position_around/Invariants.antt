@@ -1,6 +1,0 @@
-use Rattle.std.proofs.Common.{◌≡◌, false, IsSome}
-use Rattle.shaping_buffer.specs.KeepsClusters.{KeepsClusters}
-use Rattle.ot_positions.proofs.fallback_marks.position_around.Given as goal
-
-abbrev pub invariant-loop-place : goal.invariant-loop-place
-invariant-loop-place g l = (l.buffer.have_output ≡ false) × IsSome l.buffer.positions × KeepsClusters l.fn.buffer l.buffer
