@@ -141,13 +141,28 @@ keeps_moved s t level alike back = record {
 }
 
 -- what is written over a whole list
-take-refilled : (xs ws : List hb_glyph_info_t) → length ws ≡ length xs
+pub take-refilled : (xs ws : List hb_glyph_info_t) → length ws ≡ length xs
     → take (length xs) (ws ++ drop (length ws) xs) ≡ ws
 take-refilled xs ws same =
     ap (λ (z : List hb_glyph_info_t). take (length xs) (ws ++ z)) (drop_all (length ws) xs (omega arith))
     ∙ ap (take (length xs)) (append-nil ws) ∙ take_all (length xs) ws (omega arith)
 
 module _ (a m b : ℕ) (s : State) (gs now : List hb_glyph_info_t) (up : a ≤ m) (up2 : m ≤ b) where
+  -- what is written back
+  pub with_input-moved : b ≤ length s.input → now ≡ s.input → gs ≡ moved a m b now
+      → with_input s gs ≡ record s { input = moved a m b s.input }
+  with_input-moved in_l was is =
+      let same : gs ≡ moved a m b s.input = is ∙ ap (moved a m b) was in
+      let long : length gs ≡ length s.input = ap length same ∙ length-moved a m b s.input up up2 in_l in
+      ap (λ (l : List hb_glyph_info_t). record s { input = l }) (take-refilled s.input gs long ∙ same)
+
+  pub with_out-moved : b ≤ length s.out → now ≡ s.out → gs ≡ moved a m b now
+      → with_out s gs ≡ record s { out = moved a m b s.out }
+  with_out-moved in_l was is =
+      let same : gs ≡ moved a m b s.out = is ∙ ap (moved a m b) was in
+      let long : length gs ≡ length s.out = ap length same ∙ length-moved a m b s.out up up2 in_l in
+      ap (λ (l : List hb_glyph_info_t). record s { out = l }) (take-refilled s.out gs long ∙ same)
+
   -- items of the list
   pub keeps_moved_input : b ≤ length s.input → now ≡ s.input → gs ≡ moved a m b now
       → IsOneCluster (any_order s) a b s.input → KeepsClusters s (with_input s gs)

@@ -11,6 +11,10 @@ category g = bit_and (field g.var2 0 16) 0x1F
 abbrev pub is_mark : hb_glyph_info_t → Bool
 is_mark g = category g == 10 || (category g == 11 || category g == 12)
 
+-- a mark that takes no part in joining, or a format character (HarfBuzz's `get_joining_type`)
+abbrev pub is_mark_or_format : hb_glyph_info_t → Bool
+is_mark_or_format g = category g == 12 || (category g == 11 || category g == 1)
+
 -- a mark without width
 abbrev pub is_nonspacing : hb_glyph_info_t → Bool
 is_nonspacing g = category g == 12

@@ -103,7 +103,8 @@ pub fn is_variation_selector(info: &hb_glyph_info_t) -> bool
 
 /// Says that the item is a variation selector that the font does not know.
 pub fn set_variation_selector(info: &mut hb_glyph_info_t)
-    ensures { info.new.cluster ≡ info.old.cluster }
+    ensures is { info.new ≡ selectors.unknown_selector info.old }
+    ensures cluster { info.new.cluster ≡ info.old.cluster }
 {
     set_general_category(info, RB_UNICODE_GENERAL_CATEGORY_FORMAT as u16);
     info.set_unicode_props(info.unicode_props() | UnicodeProps::CF_VS.bits());
@@ -119,7 +120,8 @@ pub fn clear_variation_selector(info: &mut hb_glyph_info_t)
 
 /// Says that the character is visible by default.
 pub fn clear_default_ignorable(info: &mut hb_glyph_info_t)
-    ensures { info.new.cluster ≡ info.old.cluster }
+    ensures is { info.new ≡ properties.visible info.old }
+    ensures cluster { info.new.cluster ≡ info.old.cluster }
 {
     info.set_unicode_props(info.unicode_props() & !UnicodeProps::IGNORABLE.bits());
 }
@@ -133,7 +135,8 @@ pub fn is_unicode_space(info: &hb_glyph_info_t) -> bool
 
 /// Keeps the kind of a space that the font has no glyph for.
 pub fn set_space_fallback(info: &mut hb_glyph_info_t, space: space_t)
-    ensures { info.new.cluster ≡ info.old.cluster }
+    ensures is { info.new ≡ spaces.with_kind space info.old }
+    ensures cluster { info.new.cluster ≡ info.old.cluster }
 {
     info.set_unicode_props(u16::from(space) * 256 | info.unicode_props() & 0xFF);
 }

@@ -2,8 +2,10 @@
 //! `hb-ot-layout.hh` gives them.
 
 ghost use Rattle.std.specs.Prelude.{◌≡◌};
+ghost use Rattle.script_items.specs.Graphemes.{continuing_mark};
 ghost use Rattle.script_items.specs.Item.{shaper_byte, with_shaper_byte};
 ghost use Rattle.script_items.specs.Marks as marks;
+ghost use Rattle.script_items.specs.Properties as properties;
 
 use rb_glyph::hb_gc::{
     RB_UNICODE_GENERAL_CATEGORY_ENCLOSING_MARK, RB_UNICODE_GENERAL_CATEGORY_FORMAT,
@@ -45,7 +47,9 @@ pub fn is_unicode_mark(info: &hb_glyph_info_t) -> bool
 }
 
 /// Whether the character is a mark that takes no part in joining, or a format character.
-pub fn is_mark_or_format(info: &hb_glyph_info_t) -> bool {
+pub fn is_mark_or_format(info: &hb_glyph_info_t) -> bool
+    ensures { result ≡ marks.is_mark_or_format info.now }
+{
     matches!(
         general_category(info),
         RB_UNICODE_GENERAL_CATEGORY_NON_SPACING_MARK
@@ -55,14 +59,13 @@ pub fn is_mark_or_format(info: &hb_glyph_info_t) -> bool {
 }
 
 /// Makes the item a nonspacing mark of class 0 that goes on with the grapheme before it.
+#[tactic(auto, unfolding(crate::specs::Graphemes::continuing_mark))]
 pub fn become_mark(info: &mut hb_glyph_info_t)
-    ensures { info.new.cluster ≡ info.old.cluster }
+    ensures is { info.new ≡ continuing_mark info.old }
+    ensures cluster { info.new.cluster ≡ info.old.cluster }
 {
-    let kept = info.unicode_props() & 0xFF & !UnicodeProps::GENERAL_CATEGORY.bits();
-    info.set_unicode_props(
-        kept | UnicodeProps::CONTINUATION.bits()
-            | RB_UNICODE_GENERAL_CATEGORY_NON_SPACING_MARK as u16,
-    );
+    let flags = (info.unicode_props() | UnicodeProps::CONTINUATION.bits()) & 0xE0;
+    info.set_unicode_props(RB_UNICODE_GENERAL_CATEGORY_NON_SPACING_MARK as u16 | flags);
 }
 
 /// The class by which a mark is reordered; 0 for any other character.
@@ -87,7 +90,9 @@ pub fn set_modified_combining_class(info: &mut hb_glyph_info_t, class: u16)
 }
 
 /// Whether the glyph is that of a character which is invisible by default, and no lookup put it there.
-pub fn is_default_ignorable(info: &hb_glyph_info_t) -> bool {
+pub fn is_default_ignorable(info: &hb_glyph_info_t) -> bool
+    ensures { result ≡ properties.is_default_ignorable info.now }
+{
     info.unicode_props() & UnicodeProps::IGNORABLE.bits() != 0
         && info.glyph_props() & GlyphPropsFlags::SUBSTITUTED.bits() == 0
 }

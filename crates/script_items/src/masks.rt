@@ -1,7 +1,6 @@
 //! The masks of the features that a shaper gives each item by itself.
 
-ghost use Rattle.std.specs.Prelude.{◌≡◌, false};
-ghost use Rattle.glyph_lists.specs.Clusters.{clusters};
+ghost use Rattle.std.specs.Prelude.{◌≡◌, false, map};
 ghost use Rattle.shaping_buffer.specs.KeepsClusters.{KeepsClusters};
 ghost use Rattle.script_items.specs.Masks.{with_form_mask};
 
@@ -11,6 +10,7 @@ use shaping_buffer::{hb_buffer_t, hb_glyph_info_t};
 /// Adds to each item's mask that of the number which it keeps.
 pub fn add_masks(buffer: &mut hb_buffer_t, masks: &[u32; 8])
     requires { buffer.old.have_output ≡ false }
+    ensures is { buffer.new ≡ record buffer.old { input = map (with_form_mask masks.now) buffer.old.input } }
     ensures closed { buffer.new.have_output ≡ false }
     ensures keeps { KeepsClusters buffer.old buffer.new }
 {
@@ -18,12 +18,12 @@ pub fn add_masks(buffer: &mut hb_buffer_t, masks: &[u32; 8])
 }
 
 /// Does that with these items.
-#[tactic(auto, using(shaping_buffer::proofs::ClosedKeepsLemmas::clusters_written))]
+#[tactic(auto, using(glyph_lists::proofs::MapLemmas::walks))]
 fn add_masks_to(infos: &mut [hb_glyph_info_t], masks: &[u32; 8])
-    ensures { clusters infos.new ≡ clusters infos.old }
+    ensures { infos.new ≡ map (with_form_mask masks.now) infos.old }
 {
-    for i in 0..infos.len() {
-        add_mask(&mut infos[i], masks);
+    for info in infos.iter_mut() {
+        add_mask(info, masks);
     }
 }
 

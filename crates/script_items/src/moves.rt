@@ -1,6 +1,7 @@
 //! Items that are moved in front of others. They are put into one cluster before, so that clusters stay in order.
 
 ghost use Rattle.std.specs.Prelude.{◌≡◌, ◌≤◌, true, false, length};
+ghost use Rattle.shaping_buffer.specs.ClusterStep as step;
 ghost use Rattle.shaping_buffer.specs.ClusterStep.{any_order};
 ghost use Rattle.shaping_buffer.specs.KeepsClusters.{KeepsClusters};
 ghost use Rattle.script_items.specs.Moves.{moved, IsOneCluster};
@@ -12,6 +13,7 @@ pub fn merge(buffer: &mut hb_buffer_t, start: usize, end: usize)
     requires closed { buffer.old.have_output ≡ false }
     requires order { start ≤ end }
     requires within { end ≤ length buffer.old.input }
+    ensures is { buffer.new ≡ step.merge_clusters start end buffer.old }
     ensures closed { buffer.new.have_output ≡ false }
     ensures length { length buffer.new.input ≡ length buffer.old.input }
     ensures one { IsOneCluster (any_order buffer.new) start end buffer.new.input }
@@ -26,6 +28,7 @@ pub fn merge_out(buffer: &mut hb_buffer_t, start: usize, end: usize)
     requires opened { buffer.old.have_output ≡ true }
     requires order { start ≤ end }
     requires within { end ≤ length buffer.old.out }
+    ensures is { buffer.new ≡ step.merge_out_clusters start end buffer.old }
     ensures opened { buffer.new.have_output ≡ true }
     ensures length { length buffer.new.out ≡ length buffer.old.out }
     ensures one { IsOneCluster (any_order buffer.new) start end buffer.new.out }
@@ -41,6 +44,8 @@ pub fn move_back(buffer: &mut hb_buffer_t, start: usize, middle: usize, end: usi
     requires ends { middle ≤ end }
     requires within { end ≤ length buffer.old.input }
     requires one { IsOneCluster (any_order buffer.old) start end buffer.old.input }
+    ensures is { buffer.new ≡ record buffer.old { input = moved start middle end buffer.old.input } }
+    ensures length { length buffer.new.input ≡ length buffer.old.input }
     ensures closed { buffer.new.have_output ≡ false }
     ensures keeps { KeepsClusters buffer.old buffer.new }
 {
@@ -54,6 +59,7 @@ pub fn move_out_back(buffer: &mut hb_buffer_t, start: usize, middle: usize, end:
     requires ends { middle ≤ end }
     requires within { end ≤ length buffer.old.out }
     requires one { IsOneCluster (any_order buffer.old) start end buffer.old.out }
+    ensures is { buffer.new ≡ record buffer.old { out = moved start middle end buffer.old.out } }
     ensures opened { buffer.new.have_output ≡ true }
     ensures keeps { KeepsClusters buffer.old buffer.new }
 {

@@ -1,5 +1,7 @@
 -- How letters join their neighbours: the Unicode Standard, section 9.2, and for Syriac section 9.3.
-use Rattle.std.specs.Prelude.{ℕ, Bool, true, false, ◌&&◌, ◌==◌, if◌then◌else◌, List, [], ◌∷◌}
+use Rattle.std.specs.Prelude.{ℕ, Bool, true, false, ◌&&◌, ◌||◌, ◌==◌, nat_le, if◌then◌else◌, List, [], ◌∷◌}
+use Rattle.rb_glyph.specs.declared.category.hb_unicode_general_category_t.{hb_unicode_general_category_t}
+use Rattle.rb_glyph.specs.declared.category.hb_unicode_general_category_t.TheVariants as own
 use Rattle.rb_glyph.specs.declared.info.hb_glyph_info_t.{hb_glyph_info_t}
 use Rattle.script_joining.specs.declared.joining.kind.JoiningType.{JoiningType}
 use Rattle.script_joining.specs.declared.joining.kind.JoiningType.TheVariants.{NonJoining, Left, Right, Dual}
@@ -56,6 +58,13 @@ form_between before Transparent after = Unformed
 form_between before Alaph after = form_of_alaph before (joins_previous after)
 form_between before own after = form_of_sides (are_joined before own) (are_joined own after)
 
+-- letters join across characters of these general categories, if Unicode does not list how they join
+abbrev pub is_transparent : hb_unicode_general_category_t → Bool
+is_transparent own.NonspacingMark = true
+is_transparent own.EnclosingMark = true
+is_transparent own.Format = true
+is_transparent _ = false
+
 -- ---- as items keep them
 
 -- the type with a number
@@ -105,3 +114,21 @@ with_forms before [] beyond = []
 with_forms before (g ∷ gs) beyond =
     with_shaper_byte (number_of_form (form_between before (kind g) (first_letter gs beyond))) g
     ∷ with_forms (nearest (kind g) before) gs beyond
+
+-- the Mongolian variation selectors
+abbrev pub is_mongolian_selector : ℕ → Bool
+is_mongolian_selector c = (nat_le 0x180B c && nat_le c 0x180D) || c == 0x180F
+
+-- a selector keeps this form in place of its own
+unfoldable pub with_form_behind : ℕ → hb_glyph_info_t → hb_glyph_info_t
+with_form_behind form g = if is_mongolian_selector g.glyph_id then with_shaper_byte form g else g
+
+-- each selector keeps that of the item before it, which may be one
+abbrev pub formed_behind : hb_glyph_info_t → List hb_glyph_info_t → List hb_glyph_info_t
+formed_behind before [] = []
+formed_behind before (g ∷ gs) =
+    with_form_behind (shaper_byte before) g ∷ formed_behind (with_form_behind (shaper_byte before) g) gs
+
+abbrev pub selectors_formed : List hb_glyph_info_t → List hb_glyph_info_t
+selectors_formed [] = []
+selectors_formed (g ∷ gs) = g ∷ formed_behind g gs

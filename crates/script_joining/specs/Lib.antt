@@ -3,3 +3,4 @@ pub mod JoiningRows
 pub mod Listed
 pub mod Flags
 pub mod ArabicFeatures
+pub mod ArabicMarks

@@ -1,6 +1,12 @@
 -- Hangul syllables and their jamo (the Unicode Standard, sections 3.12 and 18.6), and what is done with them by the glyphs of a font.
 use Rattle.std.specs.Prelude.{ℕ, Bool, ◌==◌, ◌||◌, ◌&&◌, ◌+◌, ◌-◌, ◌*◌, ◌/◌, ◌%◌, nat_le, if◌then◌else◌}
-use Rattle.std.specs.Prelude.{Option, Some, None, not}
+use Rattle.std.specs.Prelude.{Option, Some, None, not, nat_lt, List, [], ◌∷◌, length, slice_index_or, slice_set}
+use Rattle.rb_glyph.specs.declared.info.hb_glyph_info_t.{hb_glyph_info_t}
+use Rattle.glyph_lists.specs.Clusters.{zero_glyph}
+use Rattle.shaping_buffer.specs.State.{State, lookahead_len}
+use Rattle.shaping_buffer.specs.ClusterStep.{merge_out_clusters, unsafe_to_break}
+use Rattle.script_items.specs.Item.{with_shaper_byte}
+use Rattle.script_items.specs.Moves.{moved}
 use Rattle.script_letters.specs.declared.hangul.syllables.Step.{Step}
 use Rattle.script_letters.specs.declared.hangul.syllables.Step.TheVariants.{Compose, Jamo, Decompose, Keep, Pass}
 
@@ -80,3 +86,59 @@ step_of has first second third =
     if is_leading first && is_vowel second then
     step_of_jamo has first second (if is_trailing third then third else 0)
     else if is_syllable first then step_of_syllable has first (jamo_of first) second else Pass
+
+-- ---- the text
+
+-- the character at a place, 0 where there is none
+abbrev pub character_at : List hb_glyph_info_t → ℕ → ℕ
+character_at l place = if nat_lt place (length l) then (slice_index_or l place zero_glyph).glyph_id else 0
+
+-- how many characters from a syllable on may not be broken apart, where a trailing consonant follows one without: both, unless the font
+-- has its jamo and the consonant composes with none
+abbrev pub unsafe_before_trailing : Step → ℕ × ℕ × ℕ → ℕ → ℕ
+unsafe_before_trailing (Decompose parts takes) jamo next = if are_modern jamo.0 jamo.1 next then 2 else 0
+unsafe_before_trailing Keep jamo next = 2
+unsafe_before_trailing Pass jamo next = 2
+unsafe_before_trailing (Compose count syllable) jamo next = 0
+unsafe_before_trailing (Jamo count) jamo next = 0
+
+abbrev pub unsafe_syllable : Step → ℕ × ℕ × ℕ → ℕ → ℕ
+unsafe_syllable step jamo next = if jamo.2 == 0 && is_trailing next then unsafe_before_trailing step jamo next else 0
+
+-- and from jamo on that make a syllable: all of them
+abbrev pub unsafe_length : Step → ℕ → ℕ → ℕ → ℕ
+unsafe_length step first second third =
+    if is_leading first && is_vowel second then (if is_trailing third then 3 else 2)
+    else if is_syllable first then unsafe_syllable step (jamo_of first) second else 0
+
+-- so many characters from the cursor on are unsafe to break
+unfoldable pub flagged_unsafe : ℕ → State → State
+flagged_unsafe count s =
+    if nat_lt 0 count && nat_le count (lookahead_len s) then unsafe_to_break (Some s.idx) (Some (s.idx + count)) s else s
+
+-- the jamo at a place keeps the number of its feature: 1 of `ljmo`, 2 of `vjmo`, 3 of `tjmo`
+unfoldable pub numbered_at : ℕ → ℕ → List hb_glyph_info_t → List hb_glyph_info_t
+numbered_at place number l = slice_set l place (with_shaper_byte number (slice_index_or l place zero_glyph))
+
+-- those from a place on keep 1, 2 and 3
+abbrev pub numbered : ℕ → List hb_glyph_info_t → List hb_glyph_info_t
+numbered start l =
+    if nat_lt start (length l) then numbered_at (start + 2) 3 (numbered_at (start + 1) 2 (numbered_at start 1 l)) else l
+
+-- they are in one cluster where graphemes are (level 0)
+unfoldable pub jamo_merged : ℕ → State → State
+jamo_merged start s =
+    if s.cluster_level == 0 && nat_le start (length s.out) then merge_out_clusters start (length s.out) s else s
+
+abbrev pub jamo_ended : ℕ → State → State
+jamo_ended start s = jamo_merged start (record s { out = numbered start s.out })
+
+-- a tone mark without a syllable stands before a dotted circle, or behind it if it has no width
+abbrev pub on_circle : ℕ → Bool → List ℕ
+on_circle tone has_no_width = if has_no_width then 0x25CC ∷ tone ∷ [] else tone ∷ 0x25CC ∷ []
+
+-- a tone mark, which is the last of `end` glyphs that were put out, goes before its syllable
+unfoldable pub tone_moved : ℕ → ℕ → State → State
+tone_moved start end s =
+    let t = merge_out_clusters start end s in
+    record t { out = moved start (end - 1) end t.out }

@@ -1,8 +1,9 @@
 //! Hebrew: letters with marks as one character, in fonts without positions of marks, and the order of marks.
 
-ghost use Rattle.std.specs.Prelude.{◌≡◌, ◌≤◌, ◌+◌, false};
+ghost use Rattle.std.specs.Prelude.{◌≡◌, ◌<◌, ◌≤◌, ◌+◌, false, length};
 ghost use Rattle.shaping_buffer.specs.KeepsClusters.{KeepsClusters};
 ghost use Rattle.rb_glyph.specs.Tables.{composition_of};
+ghost use Rattle.script_letters.specs.Hebrew as hebrew;
 ghost use Rattle.script_letters.specs.Hebrew.{presentation_forms};
 
 use rb_glyph::modified_combining_class::{CCC10, CCC14, CCC17, CCC18, CCC22};
@@ -78,40 +79,50 @@ pub fn presentation_form(a: char, b: char) -> Option<char>
 #[tactic(auto, using(shaping_buffer::proofs::ClosedKeepsLemmas::kept))]
 pub fn reorder_marks(buffer: &mut hb_buffer_t, start: usize, end: usize)
     requires { buffer.old.have_output ≡ false }
+    ensures is { hebrew.IsReordered start end buffer.old buffer.new }
     ensures closed { buffer.new.have_output ≡ false }
     ensures keeps { KeepsClusters buffer.old buffer.new }
 {
     let end = end.min(buffer.len());
-    if let Some(place) = misplaced_mark(buffer.info(), start, end) {
-        move_mark(buffer, place);
+    match misplaced_mark(buffer.info(), start, end) {
+        Some(place) => move_mark(buffer, place),
+        None => {}
     }
 }
 
 /// Swaps a mark with the one before it, in one cluster.
 #[tactic(auto, using(shaping_buffer::proofs::ClosedKeepsLemmas::kept))]
 fn move_mark(buffer: &mut hb_buffer_t, place: usize)
-    requires { buffer.old.have_output ≡ false }
+    requires closed { buffer.old.have_output ≡ false }
+    requires behind { 0 < place }
+    requires within { place < length buffer.old.input }
+    ensures is { buffer.new ≡ hebrew.mark_moved place buffer.old }
     ensures closed { buffer.new.have_output ≡ false }
     ensures keeps { KeepsClusters buffer.old buffer.new }
 {
-    if place == 0 || place >= buffer.len() {
-        return;
-    }
+    prove!(place < buffer.len());
     merge(buffer, place - 1, place + 1);
     move_back(buffer, place - 1, place, place + 1);
 }
 
 /// The place of the first mark, of those from `start` to `end`, that belongs before the one in front of it.
-fn misplaced_mark(infos: &[hb_glyph_info_t], start: usize, end: usize) -> Option<usize> {
-    let marks = infos.get(start..end)?;
-    for (i, three) in marks.windows(3).enumerate() {
-        if let [vowel, point, below] = three
-            && matches!(modified_combining_class(vowel), PATAH | QAMATS)
-            && matches!(modified_combining_class(point), SHEVA | HIRIQ)
-            && matches!(modified_combining_class(below), METEG | BELOW)
-        {
-            return Some(start + i + 2);
+fn misplaced_mark(infos: &[hb_glyph_info_t], start: usize, end: usize) -> Option<usize>
+    requires { end ≤ length infos.now }
+    ensures { hebrew.IsMisplaced infos.now start end result }
+{
+    for place in start.saturating_add(2)..end {
+        if is_misplaced(&infos[place - 2], &infos[place - 1], &infos[place]) {
+            return Some(place);
         }
     }
     None
+}
+
+/// Whether the last of three marks belongs before the second.
+fn is_misplaced(vowel: &hb_glyph_info_t, point: &hb_glyph_info_t, below: &hb_glyph_info_t) -> bool
+    ensures { result ≡ hebrew.is_misplaced vowel.now point.now below.now }
+{
+    matches!(modified_combining_class(vowel), PATAH | QAMATS)
+        && matches!(modified_combining_class(point), SHEVA | HIRIQ)
+        && matches!(modified_combining_class(below), METEG | BELOW)
 }

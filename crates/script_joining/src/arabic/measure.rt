@@ -1,6 +1,7 @@
 //! How far a mark is stretched over a word (OpenType, feature `stch`).
 
 ghost use Rattle.std.specs.Prelude.{◌≡◌, ◌≤◌, length};
+ghost use Rattle.script_joining.specs.ArabicMarks as arabic;
 
 use rb_glyph::hb_gc::*;
 use rb_glyph::{GlyphPosition, hb_glyph_info_t};
@@ -52,7 +53,9 @@ struct Fit {
 }
 
 /// Whether the glyph is a piece of a mark that is stretched.
-fn is_piece(info: &hb_glyph_info_t) -> bool {
+fn is_piece(info: &hb_glyph_info_t) -> bool
+    ensures { result ≡ arabic.is_piece info.now }
+{
     matches!(shaper_byte(info), FIXED | REPEATING)
 }
 
@@ -160,13 +163,17 @@ fn unsigned_width(width: i64, is_mirrored: bool) -> i64 {
 }
 
 /// Whether the glyph belongs to the word that a mark is stretched over.
-fn is_of_word(info: &hb_glyph_info_t) -> bool {
+fn is_of_word(info: &hb_glyph_info_t) -> bool
+    ensures { result ≡ arabic.is_of_word info.now }
+{
     !is_piece(info)
         && (is_default_ignorable(info) || is_of_word_by_category(general_category(info)))
 }
 
 /// Whether characters of the category belong to words of Arabic.
-fn is_of_word_by_category(category: u32) -> bool {
+fn is_of_word_by_category(category: u32) -> bool
+    ensures { result ≡ arabic.is_word_category category }
+{
     matches!(
         category,
         RB_UNICODE_GENERAL_CATEGORY_UNASSIGNED

@@ -1,9 +1,10 @@
 //! Marks that are stretched over a word: their pieces are repeated behind the glyphs of the word (OpenType, feature `stch`).
 
-ghost use Rattle.std.specs.Prelude.{◌≡◌, ◌≤◌, ◌<◌, false, true, length, IfOk, IsSome, None};
-ghost use Rattle.glyph_lists.specs.Clusters.{clusters};
+ghost use Rattle.std.specs.Prelude.{◌≡◌, ◌≤◌, ◌<◌, false, true, length, map, IfOk, IsSome, None};
+ghost use Rattle.std.specs.List.{list_any};
 ghost use Rattle.shaping_buffer.specs.KeepsClusters.{KeepsClusters};
 ghost use Rattle.shaping_passes.specs.Refusals.{IsRefusal};
+ghost use Rattle.script_joining.specs.ArabicMarks as arabic;
 
 use crate::arabic::measure::{FIXED, REPEATING, Stretch, last_stretch};
 use rb_glyph::{Flags, GlyphPosition, GlyphPropsFlags, hb_glyph_info_t};
@@ -26,45 +27,84 @@ struct Stretched {
 #[tactic(auto, using(shaping_buffer::proofs::ClosedKeepsLemmas::kept))]
 pub fn record_pieces(buffer: &mut hb_buffer_t)
     requires { buffer.old.have_output ≡ false }
+    ensures is { buffer.new ≡ arabic.pieces_recorded buffer.old }
     ensures closed { buffer.new.have_output ≡ false }
     ensures keeps { KeepsClusters buffer.old buffer.new }
 {
-    if record_in(buffer) {
+    let has_pieces = has_pieces(buffer.info());
+    record_in(buffer);
+    note_pieces(buffer, has_pieces);
+}
+
+/// Remembers that the text has pieces, if it has.
+#[tactic(auto, using(shaping_buffer::proofs::ClosedKeepsLemmas::kept), unfolding(crate::specs::ArabicMarks::pieces_noted))]
+fn note_pieces(buffer: &mut hb_buffer_t, has_pieces: bool)
+    requires { buffer.old.have_output ≡ false }
+    ensures is { buffer.new ≡ arabic.pieces_noted has_pieces buffer.old }
+    ensures closed { buffer.new.have_output ≡ false }
+    ensures keeps { KeepsClusters buffer.old buffer.new }
+{
+    if has_pieces {
         buffer.scratch_flags = buffer.scratch_flags | HB_BUFFER_SCRATCH_FLAG_SHAPER0;
     }
 }
 
-/// Whether there are pieces; each keeps whether it is repeated.
-fn record_in(buffer: &mut hb_buffer_t) -> bool
+/// Lets each piece of a buffer keep whether it is repeated.
+fn record_in(buffer: &mut hb_buffer_t)
     requires { buffer.old.have_output ≡ false }
+    ensures is { buffer.new ≡ arabic.all_recorded buffer.old }
     ensures closed { buffer.new.have_output ≡ false }
     ensures keeps { KeepsClusters buffer.old buffer.new }
 {
-    record_all(buffer.info_slice_mut())
+    record_all(buffer.info_slice_mut());
 }
 
-/// Whether there are pieces among these items.
-#[tactic(auto, using(shaping_buffer::proofs::ClosedKeepsLemmas::clusters_written))]
-fn record_all(infos: &mut [hb_glyph_info_t]) -> bool
-    ensures { clusters infos.new ≡ clusters infos.old }
+/// Whether there are pieces.
+fn has_pieces(infos: &[hb_glyph_info_t]) -> bool
+    ensures { result ≡ list_any arabic.is_multiplied infos.now }
 {
-    let mut has_pieces = false;
-    for i in 0..infos.len() {
-        if infos[i].glyph_props() & GlyphPropsFlags::MULTIPLIED.bits() != 0 {
-            let byte = if component(&infos[i]) % 2 == 1 {
-                REPEATING
-            } else {
-                FIXED
-            };
-            set_shaper_byte(&mut infos[i], byte);
-            has_pieces = true;
-        }
+    infos.iter().any(|info| is_multiplied(info))
+}
+
+/// Lets each piece keep whether it is repeated.
+#[tactic(auto, using(glyph_lists::proofs::MapLemmas::walks))]
+fn record_all(infos: &mut [hb_glyph_info_t])
+    ensures { infos.new ≡ map arabic.recorded infos.old }
+{
+    for info in infos.iter_mut() {
+        record_piece(info);
     }
-    has_pieces
+}
+
+/// Lets an item keep whether it is repeated, if it is a piece.
+#[tactic(auto, unfolding(crate::specs::ArabicMarks::recorded))]
+fn record_piece(info: &mut hb_glyph_info_t)
+    ensures { info.new ≡ arabic.recorded info.old }
+{
+    if is_multiplied(info) {
+        let number = piece_number(component(info));
+        set_shaper_byte(info, number);
+    }
+}
+
+/// The number that a piece keeps: each second one is repeated.
+fn piece_number(component: u8) -> u8
+    ensures { result ≡ arabic.piece_number component }
+{
+    if component % 2 == 1 { REPEATING } else { FIXED }
+}
+
+/// Whether a lookup made the glyph of one, with others.
+fn is_multiplied(info: &hb_glyph_info_t) -> bool
+    ensures { result ≡ arabic.is_multiplied info.now }
+{
+    info.glyph_props() & GlyphPropsFlags::MULTIPLIED.bits() != 0
 }
 
 /// Which of the glyphs that a lookup made of one this is, from 0 on.
-fn component(info: &hb_glyph_info_t) -> u8 {
+fn component(info: &hb_glyph_info_t) -> u8
+    ensures { result ≡ arabic.component info.now }
+{
     let properties = info.lig_props();
     if properties & 0x10 != 0 {
         0

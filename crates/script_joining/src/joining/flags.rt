@@ -2,6 +2,7 @@
 
 ghost use Rattle.std.specs.Prelude.{◌≡◌, false};
 ghost use Rattle.shaping_buffer.specs.KeepsClusters.{KeepsClusters};
+ghost use Rattle.script_joining.specs.Flags as flags;
 ghost use Rattle.script_joining.specs.Flags.{heeds_next, heeds_previous, tie_of};
 
 use crate::joining::forms::kind;
@@ -83,23 +84,39 @@ pub(crate) fn flag_joins(buffer: &mut hb_buffer_t, before: JoiningType, behind: 
         let own = kind_at(buffer.info(), i);
         if own != Transparent {
             flag_join(buffer, &last, own, i + 1);
-            let is_formed = !last.heeds_next && heeds_previous(last.kind, own);
-            last = LastLetter {
-                place: Some(i),
-                kind: own,
-                heeds_next: heeds_next(last.kind, own),
-                formed_by: if is_formed { last.place } else { None },
-            };
+            last = letter_behind(&last, own, i);
         }
     }
     flag_end(buffer, &last, behind);
 }
 
+/// The letter of a type at a place, behind the last one.
+fn letter_behind(last: &LastLetter, own: JoiningType, place: usize) -> LastLetter
+    ensures { result ≡ flags.letter_behind last.now own place }
+{
+    let letter = LastLetter {
+        place: Some(place),
+        kind: own,
+        heeds_next: heeds_next(last.kind, own),
+        formed_by: None,
+    };
+    if last.heeds_next || !heeds_previous(last.kind, own) {
+        return letter;
+    }
+    LastLetter {
+        formed_by: last.place,
+        ..letter
+    }
+}
+
 /// The type of the item at a place.
-fn kind_at(infos: &[hb_glyph_info_t], place: usize) -> JoiningType {
-    match infos.get(place) {
-        Some(info) => kind(info),
-        None => NonJoining,
+fn kind_at(infos: &[hb_glyph_info_t], place: usize) -> JoiningType
+    ensures { result ≡ flags.kind_at infos.now place }
+{
+    if place < infos.len() {
+        kind(&infos[place])
+    } else {
+        NonJoining
     }
 }
 
@@ -107,57 +124,108 @@ fn kind_at(infos: &[hb_glyph_info_t], place: usize) -> JoiningType {
 #[tactic(auto, using(shaping_buffer::proofs::ClosedKeepsLemmas::kept))]
 fn flag_join(buffer: &mut hb_buffer_t, last: &LastLetter, own: JoiningType, end: usize)
     requires { buffer.old.have_output ≡ false }
+    ensures is { buffer.new ≡ flags.flagged_join last.now own end buffer.old }
     ensures closed { buffer.new.have_output ≡ false }
     ensures keeps { KeepsClusters buffer.old buffer.new }
 {
-    flag_formed(buffer, last, own);
-    let Some(start) = last.place else {
-        if own.joins_previous() {
-            buffer.unsafe_to_concat_from_outbuffer(Some(0), Some(end));
+    flag_formed(buffer, last.formed_by, last.place, own);
+    flag_behind(buffer, last.place, last.heeds_next, own, end);
+}
+
+/// Flags the place between the last letter, or the beginning of the text, and a letter that ends at a place.
+#[tactic(auto, using(crate::proofs::FlagsLemmas::flags, shaping_buffer::proofs::ClosedKeepsLemmas::kept))]
+fn flag_behind(
+    buffer: &mut hb_buffer_t,
+    place: Option<usize>,
+    is_heeded: bool,
+    own: JoiningType,
+    end: usize,
+)
+    requires { buffer.old.have_output ≡ false }
+    ensures is { buffer.new ≡ flags.flagged_behind place is_heeded own end buffer.old }
+    ensures closed { buffer.new.have_output ≡ false }
+    ensures keeps { KeepsClusters buffer.old buffer.new }
+{
+    match place {
+        Some(start) => flag_between(buffer, tie_of(is_heeded, own), start, end),
+        None => {
+            if own.joins_previous() {
+                buffer.unsafe_to_concat_from_outbuffer(Some(0), Some(end));
+            }
         }
-        return;
-    };
-    flag_between(buffer, tie_of(last.heeds_next, own), start, end);
+    }
 }
 
 /// Flags the end of the text: its last letter may have its form by the letter before it, and heed the letter behind it, if one is known.
 #[tactic(auto, using(shaping_buffer::proofs::ClosedKeepsLemmas::kept))]
 fn flag_end(buffer: &mut hb_buffer_t, last: &LastLetter, behind: Option<JoiningType>)
     requires { buffer.old.have_output ≡ false }
+    ensures is { buffer.new ≡ flags.flagged_end last.now behind buffer.old }
     ensures closed { buffer.new.have_output ≡ false }
     ensures keeps { KeepsClusters buffer.old buffer.new }
 {
-    flag_formed(buffer, last, behind.unwrap_or(NonJoining));
-    if let Some(start) = last.place
-        && let Some(own) = behind
-        && last.heeds_next
-    {
-        let end = buffer.len();
-        flag_between(buffer, tie_of(true, own), start, end);
+    let next = behind.unwrap_or(NonJoining);
+    flag_formed(buffer, last.formed_by, last.place, next);
+    flag_before(buffer, last.place, last.heeds_next, behind);
+}
+
+/// Flags the text from its last letter on, if that heeds the letter behind it, and one is known.
+#[tactic(auto, using(shaping_buffer::proofs::ClosedKeepsLemmas::kept))]
+fn flag_before(buffer: &mut hb_buffer_t, at: Option<usize>, heeds: bool, next: Option<JoiningType>)
+    requires { buffer.old.have_output ≡ false }
+    ensures is { buffer.new ≡ flags.flagged_before at heeds next buffer.old }
+    ensures closed { buffer.new.have_output ≡ false }
+    ensures keeps { KeepsClusters buffer.old buffer.new }
+{
+    match at {
+        Some(start) => match next {
+            Some(own) => {
+                if heeds {
+                    let end = buffer.len();
+                    flag_between(buffer, tie_of(true, own), start, end);
+                }
+            }
+            None => {}
+        },
+        None => {}
     }
 }
 
 /// Flags the place before the last letter, where that has its form by the letter before, and not by the next one, which is of a type.
 #[tactic(auto, using(shaping_buffer::proofs::ClosedKeepsLemmas::kept))]
-fn flag_formed(buffer: &mut hb_buffer_t, last: &LastLetter, next: JoiningType)
+fn flag_formed(buffer: &mut hb_buffer_t, from: Option<usize>, at: Option<usize>, next: JoiningType)
     requires { buffer.old.have_output ≡ false }
+    ensures is { buffer.new ≡ flags.flagged_formed from at next buffer.old }
     ensures closed { buffer.new.have_output ≡ false }
     ensures keeps { KeepsClusters buffer.old buffer.new }
 {
-    if let Some(from) = last.formed_by
-        && let Some(place) = last.place
-        && from <= place
-        && place < buffer.len()
-        && !next.joins_previous()
-    {
+    match from {
+        Some(from) => match at {
+            Some(place) => keep_formed(buffer, from, place, next),
+            None => {}
+        },
+        None => {}
+    }
+}
+
+/// Flags what lies between a letter and the one that it has its form by, unless the next one joins to it.
+#[tactic(auto, using(crate::proofs::FlagsLemmas::flags, shaping_buffer::proofs::ClosedKeepsLemmas::kept))]
+fn keep_formed(buffer: &mut hb_buffer_t, from: usize, place: usize, next: JoiningType)
+    requires { buffer.old.have_output ≡ false }
+    ensures is { buffer.new ≡ flags.kept_formed from place next buffer.old }
+    ensures closed { buffer.new.have_output ≡ false }
+    ensures keeps { KeepsClusters buffer.old buffer.new }
+{
+    if from <= place && place < buffer.len() && !next.joins_previous() {
         buffer.unsafe_to_break(Some(from), Some(place + 1));
     }
 }
 
-/// Flags the glyphs from a letter to the end of the next.
-#[tactic(auto, using(shaping_buffer::proofs::ClosedKeepsLemmas::kept))]
+/// Flags the glyphs from a letter to the end of the next, if both are in the text.
+#[tactic(auto, using(crate::proofs::FlagsLemmas::flags, shaping_buffer::proofs::ClosedKeepsLemmas::kept))]
 fn flag_between(buffer: &mut hb_buffer_t, tie: Tie, start: usize, end: usize)
     requires { buffer.old.have_output ≡ false }
+    ensures is { buffer.new ≡ flags.flagged_between tie start end buffer.old }
     ensures closed { buffer.new.have_output ≡ false }
     ensures keeps { KeepsClusters buffer.old buffer.new }
 {

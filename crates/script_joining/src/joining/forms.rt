@@ -1,9 +1,9 @@
 //! The forms of all letters of a text.
 
 ghost use Rattle.std.specs.Prelude.{◌≡◌, map, ◌<◌, ◌+◌, length, slice_index_or, drop};
-ghost use Rattle.glyph_lists.specs.Clusters.{clusters};
 ghost use Rattle.script_items.specs.Item.{with_shaper_byte};
 ghost use Rattle.script_joining.specs.Joining.{with_forms, first_letter, kind, form_between, number_of_type};
+ghost use Rattle.script_joining.specs.Listed.{with_type};
 
 use crate::joining::form::{ArabicAction, form_between};
 use crate::joining::kind::JoiningType::*;
@@ -12,14 +12,21 @@ use rb_glyph::hb_glyph_info_t;
 use script_items::item::{is_mark_or_format, set_shaper_byte, shaper_byte};
 
 /// Lets each item keep the type of its character.
-#[tactic(auto, using(shaping_buffer::proofs::ClosedKeepsLemmas::clusters_written))]
+#[tactic(auto, using(glyph_lists::proofs::MapLemmas::walks))]
 pub(crate) fn set_types(infos: &mut [hb_glyph_info_t])
-    ensures { clusters infos.new ≡ clusters infos.old }
+    ensures { infos.new ≡ map with_type infos.old }
 {
-    for i in 0..infos.len() {
-        let kind = joining_type(infos[i].glyph_id, is_mark_or_format(&infos[i]));
-        set_shaper_byte(&mut infos[i], kind.number());
+    for info in infos.iter_mut() {
+        set_type(info);
     }
+}
+
+/// Lets an item keep the type of its character.
+fn set_type(info: &mut hb_glyph_info_t)
+    ensures { info.new ≡ with_type info.old }
+{
+    let kind = joining_type(info.glyph_id, is_mark_or_format(info));
+    set_shaper_byte(info, kind.number());
 }
 
 /// The type that an item keeps.

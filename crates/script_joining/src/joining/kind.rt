@@ -86,6 +86,7 @@ impl JoiningType {
 
 /// How a character joins: as Unicode lists it, and where it does not, marks and format characters are transparent, and all others
 /// join on no side.
+#[tactic(auto, unfolding(crate::specs::Listed::joining_type))]
 pub fn joining_type(character: u32, is_mark_or_format: bool) -> JoiningType
     ensures { result ≡ joining_type character is_mark_or_format }
 {

@@ -5,6 +5,7 @@ ghost use Rattle.shaping_buffer.specs.KeepsClusters.{KeepsClusters};
 ghost use Rattle.glyph_lists.specs.Clusters.{clusters};
 ghost use Rattle.shaping_buffer.specs.State.{len};
 ghost use Rattle.shaping_passes.specs.Refusals.{IsRefusal};
+ghost use Rattle.script_letters.specs.Hangul as hangul;
 
 use crate::hangul::jamo::is_tone;
 use crate::hangul::syllables::{Step, next_step, unsafe_length};
@@ -100,23 +101,27 @@ fn read_syllable<F: FontGlyphs>(
 }
 
 /// The character at a place; 0 where there is none.
-fn character_at(infos: &[hb_glyph_info_t], place: usize) -> u32 {
-    match infos.get(place) {
-        Some(info) => info.glyph_id,
-        None => 0,
+fn character_at(infos: &[hb_glyph_info_t], place: usize) -> u32
+    ensures { result ≡ hangul.character_at infos.now place }
+{
+    if place < infos.len() {
+        infos[place].glyph_id
+    } else {
+        0
     }
 }
 
 /// Flags so many characters from the cursor on as unsafe to break.
-#[tactic(auto, using(shaping_buffer::proofs::ClosedKeepsLemmas::kept))]
+#[tactic(auto, using(crate::proofs::HangulLemmas::steps, shaping_buffer::proofs::ClosedKeepsLemmas::kept))]
 fn flag_unsafe(buffer: &mut hb_buffer_t, count: usize)
     requires { buffer.old.have_output ≡ true }
+    ensures is { buffer.new ≡ hangul.flagged_unsafe count buffer.old }
     ensures opened { buffer.new.have_output ≡ true }
     ensures keeps { KeepsClusters buffer.old buffer.new }
 {
     let start = buffer.idx();
     let end = buffer.len();
-    if count > 0 && start <= end && count <= end - start {
+    if count > 0 && count <= end - start {
         buffer.unsafe_to_break(Some(start), Some(start + count));
     }
 }
@@ -181,10 +186,22 @@ fn put_jamo(
 #[tactic(auto, using(shaping_buffer::proofs::ClosedKeepsLemmas::kept))]
 fn end_jamo(buffer: &mut hb_buffer_t, start: usize)
     requires { buffer.old.have_output ≡ true }
+    ensures is { buffer.new ≡ hangul.jamo_ended start buffer.old }
     ensures opened { buffer.new.have_output ≡ true }
     ensures keeps { KeepsClusters buffer.old buffer.new }
 {
     number_jamo(buffer, start);
+    merge_jamo(buffer, start);
+}
+
+/// Puts the jamo that were put out from a place on into one cluster, where clusters are graphemes.
+#[tactic(auto, using(crate::proofs::HangulLemmas::steps, shaping_buffer::proofs::ClosedKeepsLemmas::kept))]
+fn merge_jamo(buffer: &mut hb_buffer_t, start: usize)
+    requires { buffer.old.have_output ≡ true }
+    ensures is { buffer.new ≡ hangul.jamo_merged start buffer.old }
+    ensures opened { buffer.new.have_output ≡ true }
+    ensures keeps { KeepsClusters buffer.old buffer.new }
+{
     let end = buffer.out_len();
     if buffer.cluster_level == HB_BUFFER_CLUSTER_LEVEL_MONOTONE_GRAPHEMES && start <= end {
         buffer.merge_out_clusters(start, end);
@@ -194,6 +211,7 @@ fn end_jamo(buffer: &mut hb_buffer_t, start: usize)
 /// Lets the jamo from a place on keep 1, 2 and 3.
 fn number_jamo(buffer: &mut hb_buffer_t, start: usize)
     requires { buffer.old.have_output ≡ true }
+    ensures is { buffer.new ≡ record buffer.old { out = hangul.numbered start buffer.old.out } }
     ensures opened { buffer.new.have_output ≡ true }
     ensures keeps { KeepsClusters buffer.old buffer.new }
 {
@@ -201,12 +219,24 @@ fn number_jamo(buffer: &mut hb_buffer_t, start: usize)
 }
 
 /// Does that with these items.
-#[tactic(auto, using(shaping_buffer::proofs::ClosedKeepsLemmas::clusters_written))]
 fn number_all(infos: &mut [hb_glyph_info_t], start: usize)
-    ensures { clusters infos.new ≡ clusters infos.old }
+    ensures is { infos.new ≡ hangul.numbered start infos.old }
+    ensures clusters { clusters infos.new ≡ clusters infos.old }
 {
-    let behind = infos.len().saturating_sub(start).min(3);
-    for number in 0..behind {
-        set_shaper_byte(&mut infos[start + number], number as u8 + 1);
+    if start < infos.len() {
+        number_at(infos, start, 1);
+        number_at(infos, start + 1, 2);
+        number_at(infos, start + 2, 3);
+    }
+}
+
+/// Lets the jamo at a place keep a number, if there is one.
+#[tactic(auto, using(shaping_buffer::proofs::ClosedKeepsLemmas::clusters_written, std::proofs::lemmas::List::set_past), unfolding(crate::specs::Hangul::numbered_at))]
+fn number_at(infos: &mut [hb_glyph_info_t], place: usize, number: u8)
+    ensures is { infos.new ≡ hangul.numbered_at place number infos.old }
+    ensures clusters { clusters infos.new ≡ clusters infos.old }
+{
+    if place < infos.len() {
+        set_shaper_byte(&mut infos[place], number);
     }
 }

@@ -3,6 +3,7 @@
 ghost use Rattle.std.specs.Prelude.{◌≡◌, ◌<◌, ◌≤◌, ◌+◌, false, true, length, IfOk};
 ghost use Rattle.shaping_buffer.specs.KeepsClusters.{KeepsClusters};
 ghost use Rattle.shaping_passes.specs.Refusals.{IsRefusal};
+ghost use Rattle.script_letters.specs.Hangul as hangul;
 
 use crate::hangul::text::Syllable;
 use script_items::font::{FontGlyphs, has_no_width};
@@ -36,12 +37,19 @@ pub(crate) fn read_tone<F: FontGlyphs>(
     if !is_allowed || !font.has_glyph(DOTTED_CIRCLE) {
         return buffer.next_glyph();
     }
-    let characters = if has_no_width(font, tone) {
+    let characters = on_circle(tone, has_no_width(font, tone));
+    buffer.replace_glyphs(1, 2, &characters)
+}
+
+/// A tone mark and its dotted circle: a mark without width stands behind that, and any other one before it.
+fn on_circle(tone: u32, has_no_width: bool) -> [u32; 2]
+    ensures { result ≡ hangul.on_circle tone has_no_width }
+{
+    if has_no_width {
         [DOTTED_CIRCLE, tone]
     } else {
         [tone, DOTTED_CIRCLE]
-    };
-    buffer.replace_glyphs(1, 2, &characters)
+    }
 }
 
 /// Reads a tone mark that stands behind a syllable, and moves it in front of that, if it is to be moved.
@@ -67,10 +75,22 @@ fn read_after_syllable(
     if !buffer.next_glyph()? {
         return Ok(false);
     }
-    let end = buffer.out_len();
-    if is_moved && last.start < end {
-        merge_out(buffer, last.start, end);
-        move_out_back(buffer, last.start, end - 1, end);
+    if is_moved && last.start < buffer.out_len() {
+        move_tone(buffer, last.start);
     }
     Ok(true)
+}
+
+/// Moves the tone mark, which was put out last, in front of what was put out from `start` on.
+#[tactic(auto, using(shaping_buffer::proofs::ClosedKeepsLemmas::kept))]
+fn move_tone(buffer: &mut hb_buffer_t, start: usize)
+    requires opened { buffer.old.have_output ≡ true }
+    requires behind { start < length buffer.old.out }
+    ensures is { buffer.new ≡ hangul.tone_moved start (length buffer.old.out) buffer.old }
+    ensures opened { buffer.new.have_output ≡ true }
+    ensures keeps { KeepsClusters buffer.old buffer.new }
+{
+    let end = buffer.out_len();
+    merge_out(buffer, start, end);
+    move_out_back(buffer, start, end - 1, end);
 }

@@ -4,6 +4,8 @@
 ghost use Rattle.std.specs.Prelude.{◌≡◌, ◌<◌, ◌≤◌, false, length};
 ghost use Rattle.glyph_lists.specs.Clusters.{clusters};
 ghost use Rattle.shaping_buffer.specs.KeepsClusters.{KeepsClusters};
+ghost use Rattle.script_letters.specs.Hangul.{character_at};
+ghost use Rattle.script_letters.specs.Thai as thai;
 
 use script_items::font::FontGlyphs;
 use shaping_buffer::{hb_buffer_t, hb_glyph_info_t};
@@ -83,7 +85,9 @@ struct Around {
 
 impl Consonant {
     /// The kind of a character.
-    fn of(character: u32) -> Consonant {
+    fn of(character: u32) -> Consonant
+        ensures { result ≡ thai.consonant_of character }
+    {
         match character {
             0xE1B | 0xE1D | 0xE1F => Consonant::Ascending,
             0xE0D | 0xE10 => Consonant::RemovableDescender,
@@ -94,16 +98,22 @@ impl Consonant {
     }
 
     /// What is above it before there are marks.
-    fn above(self) -> Above {
+    fn above(self) -> Above
+        ensures { result ≡ thai.above_at_start self }
+    {
         match self {
             Consonant::Ascending => Above::Ascender,
             Consonant::Not => Above::Full,
-            _ => Above::Free,
+            Consonant::Plain | Consonant::RemovableDescender | Consonant::StrictDescender => {
+                Above::Free
+            }
         }
     }
 
     /// What is below it before there are marks.
-    fn below(self) -> Below {
+    fn below(self) -> Below
+        ensures { result ≡ thai.below_at_start self }
+    {
         match self {
             Consonant::Plain | Consonant::Ascending => Below::Free,
             Consonant::RemovableDescender => Below::Removable,
@@ -114,7 +124,9 @@ impl Consonant {
 
 impl Mark {
     /// The kind of a character; `None` for one that is no mark.
-    fn of(character: u32) -> Option<Mark> {
+    fn of(character: u32) -> Option<Mark>
+        ensures { result ≡ thai.mark_of character }
+    {
         match character {
             0xE31 | 0xE34..=0xE37 | 0xE47 | 0xE4D..=0xE4E => Some(Mark::AboveVowel),
             0xE38..=0xE3A => Some(Mark::BelowVowel),
@@ -126,35 +138,48 @@ impl Mark {
 
 impl Above {
     /// What is done with the next mark, and what is above then.
-    fn next(self, mark: Mark) -> (Action, Above) {
-        match (self, mark) {
-            (_, Mark::BelowVowel) => (Action::Keep, self),
-            (Above::Free, Mark::AboveVowel) => (Action::Keep, Above::Full),
-            (Above::Free, Mark::Tone) => (Action::Down, Above::Full),
-            (Above::Ascender, Mark::AboveVowel) => (Action::Left, Above::AscenderAndMark),
-            (Above::Ascender, Mark::Tone) => (Action::DownLeft, Above::AscenderAndMark),
-            (Above::AscenderAndMark, Mark::AboveVowel) => (Action::Keep, Above::Full),
-            (Above::AscenderAndMark, Mark::Tone) => (Action::Left, Above::Full),
-            (Above::Full, _) => (Action::Keep, Above::Full),
+    fn next(self, mark: Mark) -> (Action, Above)
+        ensures { result ≡ thai.above_edge mark self }
+    {
+        match mark {
+            Mark::BelowVowel => (Action::Keep, self),
+            Mark::AboveVowel => match self {
+                Above::Free => (Action::Keep, Above::Full),
+                Above::Ascender => (Action::Left, Above::AscenderAndMark),
+                Above::AscenderAndMark => (Action::Keep, Above::Full),
+                Above::Full => (Action::Keep, Above::Full),
+            },
+            Mark::Tone => match self {
+                Above::Free => (Action::Down, Above::Full),
+                Above::Ascender => (Action::DownLeft, Above::AscenderAndMark),
+                Above::AscenderAndMark => (Action::Left, Above::Full),
+                Above::Full => (Action::Keep, Above::Full),
+            },
         }
     }
 }
 
 impl Below {
     /// What is done with the next mark, and what is below then.
-    fn next(self, mark: Mark) -> (Action, Below) {
-        match (self, mark) {
-            (Below::Free, Mark::BelowVowel) => (Action::Keep, Below::Taken),
-            (Below::Removable, Mark::BelowVowel) => (Action::RemoveDescender, Below::Taken),
-            (Below::Taken, Mark::BelowVowel) => (Action::Down, Below::Taken),
-            _ => (Action::Keep, self),
+    fn next(self, mark: Mark) -> (Action, Below)
+        ensures { result ≡ thai.below_edge mark self }
+    {
+        match mark {
+            Mark::AboveVowel | Mark::Tone => (Action::Keep, self),
+            Mark::BelowVowel => match self {
+                Below::Free => (Action::Keep, Below::Taken),
+                Below::Removable => (Action::RemoveDescender, Below::Taken),
+                Below::Taken => (Action::Down, Below::Taken),
+            },
         }
     }
 }
 
 impl Around {
     /// What stands around a character that is no mark.
-    fn of(base: usize, character: u32) -> Around {
+    fn of(base: usize, character: u32) -> Around
+        ensures { result ≡ thai.around base character }
+    {
         let consonant = Consonant::of(character);
         Around {
             base,
@@ -164,12 +189,25 @@ impl Around {
     }
 
     /// Adds a mark, and says what is done.
-    fn add(&mut self, mark: Mark) -> Action {
+    fn add(&mut self, mark: Mark) -> Action
+        ensures is { self.new ≡ thai.with_mark mark self.old }
+        ensures action { result ≡ thai.action_of mark self.old }
+    {
         let (above, next_above) = self.above.next(mark);
         let (below, next_below) = self.below.next(mark);
         self.above = next_above;
         self.below = next_below;
-        if above == Action::Keep { below } else { above }
+        chosen(above, below)
+    }
+}
+
+/// What is done above, or else what is done below: one of both is nothing.
+fn chosen(above: Action, below: Action) -> Action
+    ensures { result ≡ thai.chosen above below }
+{
+    match above {
+        Action::Keep => below,
+        Action::Down | Action::Left | Action::DownLeft | Action::RemoveDescender => above,
     }
 }
 
@@ -207,31 +245,53 @@ fn shape_mark<F: FontGlyphs>(
     font: &F,
 )
     requires { buffer.old.have_output ≡ false }
+    ensures is { buffer.new ≡ thai.mark_shaped (F.has font.now) action base mark buffer.old }
+    ensures closed { buffer.new.have_output ≡ false }
+    ensures keeps { KeepsClusters buffer.old buffer.new }
+{
+    keep_to_base(buffer, base, mark);
+    let place = place_of(action, base, mark);
+    replace_at(buffer, place, action, font);
+}
+
+/// Flags a base and the marks before a place as unsafe to break.
+#[tactic(auto, using(crate::proofs::ThaiLemmas::bases, shaping_buffer::proofs::ClosedKeepsLemmas::kept))]
+fn keep_to_base(buffer: &mut hb_buffer_t, base: usize, mark: usize)
+    requires { buffer.old.have_output ≡ false }
+    ensures is { buffer.new ≡ thai.kept_to_base base mark buffer.old }
     ensures closed { buffer.new.have_output ≡ false }
     ensures keeps { KeepsClusters buffer.old buffer.new }
 {
     if base <= mark && mark <= buffer.len() {
         buffer.unsafe_to_break(Some(base), Some(mark));
     }
-    let place = if action == Action::RemoveDescender {
-        base
-    } else {
-        mark
-    };
-    replace_at(buffer, place, action, font);
+}
+
+/// Where something is done: at the base, which loses its descender, or at the mark.
+fn place_of(action: Action, base: usize, mark: usize) -> usize
+    ensures { result ≡ thai.place_of action base mark }
+{
+    match action {
+        Action::RemoveDescender => base,
+        Action::Keep | Action::Down | Action::Left | Action::DownLeft => mark,
+    }
 }
 
 /// The character at a place.
-fn character_at(infos: &[hb_glyph_info_t], place: usize) -> u32 {
-    match infos.get(place) {
-        Some(info) => info.glyph_id,
-        None => 0,
+fn character_at(infos: &[hb_glyph_info_t], place: usize) -> u32
+    ensures { result ≡ character_at infos.now place }
+{
+    if place < infos.len() {
+        infos[place].glyph_id
+    } else {
+        0
     }
 }
 
 /// Puts a character of the private use area in the place of the one at `place`, if the font has it.
 fn replace_at<F: FontGlyphs>(buffer: &mut hb_buffer_t, place: usize, action: Action, font: &F)
     requires { buffer.old.have_output ≡ false }
+    ensures is { buffer.new ≡ record buffer.old { input = thai.shaped_at (F.has font.now) action place buffer.old.input } }
     ensures closed { buffer.new.have_output ≡ false }
     ensures keeps { KeepsClusters buffer.old buffer.new }
 {
@@ -239,36 +299,59 @@ fn replace_at<F: FontGlyphs>(buffer: &mut hb_buffer_t, place: usize, action: Act
 }
 
 /// Puts such a character in its place.
-#[tactic(auto, using(shaping_buffer::proofs::ClosedKeepsLemmas::clusters_written))]
+#[tactic(auto, using(shaping_buffer::proofs::ClosedKeepsLemmas::clusters_written, std::proofs::lemmas::List::set_past))]
 fn replace_character<F: FontGlyphs>(
     infos: &mut [hb_glyph_info_t],
     place: usize,
     action: Action,
     font: &F,
 )
-    ensures { clusters infos.new ≡ clusters infos.old }
+    ensures is { infos.new ≡ thai.shaped_at (F.has font.now) action place infos.old }
+    ensures clusters { clusters infos.new ≡ clusters infos.old }
 {
-    if place < infos.len()
-        && let Some(character) = private_use_of(font, action, infos[place].glyph_id)
-    {
-        infos[place].glyph_id = character;
+    if place < infos.len() {
+        shape_character(&mut infos[place], action, font);
     }
 }
 
+/// Gives an item the character of the private use area that the font has for it.
+#[tactic(auto, unfolding(crate::specs::Thai::shaped))]
+fn shape_character<F: FontGlyphs>(info: &mut hb_glyph_info_t, action: Action, font: &F)
+    ensures is { info.new ≡ thai.shaped (F.has font.now) action info.old }
+    ensures cluster { info.new.cluster ≡ info.old.cluster }
+{
+    info.glyph_id = private_use_of(font, action, info.glyph_id).unwrap_or(info.glyph_id);
+}
+
 /// The character of the private use area that the font has for one that something is done with.
-fn private_use_of<F: FontGlyphs>(font: &F, action: Action, character: u32) -> Option<u32> {
-    let (windows, macintosh) = private_use(action, character)?;
-    if font.has_glyph(windows) {
-        Some(windows)
-    } else if font.has_glyph(macintosh) {
-        Some(macintosh)
-    } else {
-        None
+fn private_use_of<F: FontGlyphs>(font: &F, action: Action, character: u32) -> Option<u32>
+    ensures { result ≡ thai.one_of (F.has font.now) (thai.private_use action character) }
+{
+    one_of(font, private_use(action, character))
+}
+
+/// The first of two characters that the font has.
+fn one_of<F: FontGlyphs>(font: &F, forms: Option<(u32, u32)>) -> Option<u32>
+    ensures { result ≡ thai.one_of (F.has font.now) forms }
+{
+    match forms {
+        Some((windows, macintosh)) => {
+            if font.has_glyph(windows) {
+                Some(windows)
+            } else if font.has_glyph(macintosh) {
+                Some(macintosh)
+            } else {
+                None
+            }
+        }
+        None => None,
     }
 }
 
 /// The characters that fonts for Windows and for the Macintosh have for a character that something is done with.
-fn private_use(action: Action, character: u32) -> Option<(u32, u32)> {
+fn private_use(action: Action, character: u32) -> Option<(u32, u32)>
+    ensures { result ≡ thai.private_use action character }
+{
     match action {
         Action::Keep => None,
         Action::Down => moved_down(character),
@@ -279,7 +362,9 @@ fn private_use(action: Action, character: u32) -> Option<(u32, u32)> {
 }
 
 /// A mark that is moved down.
-fn moved_down(character: u32) -> Option<(u32, u32)> {
+fn moved_down(character: u32) -> Option<(u32, u32)>
+    ensures { result ≡ thai.moved_down character }
+{
     match character {
         0xE48 => Some((0xF70A, 0xF88B)),
         0xE49 => Some((0xF70B, 0xF88E)),
@@ -294,7 +379,9 @@ fn moved_down(character: u32) -> Option<(u32, u32)> {
 }
 
 /// A tone mark that is moved down and left.
-fn moved_down_left(character: u32) -> Option<(u32, u32)> {
+fn moved_down_left(character: u32) -> Option<(u32, u32)>
+    ensures { result ≡ thai.moved_down_left character }
+{
     match character {
         0xE48 => Some((0xF705, 0xF88C)),
         0xE49 => Some((0xF706, 0xF88F)),
@@ -306,7 +393,9 @@ fn moved_down_left(character: u32) -> Option<(u32, u32)> {
 }
 
 /// A mark that is moved left.
-fn moved_left(character: u32) -> Option<(u32, u32)> {
+fn moved_left(character: u32) -> Option<(u32, u32)>
+    ensures { result ≡ thai.moved_left character }
+{
     match character {
         0xE48 => Some((0xF713, 0xF88A)),
         0xE49 => Some((0xF714, 0xF88D)),
@@ -325,7 +414,9 @@ fn moved_left(character: u32) -> Option<(u32, u32)> {
 }
 
 /// A consonant without its descender.
-fn without_descender(character: u32) -> Option<(u32, u32)> {
+fn without_descender(character: u32) -> Option<(u32, u32)>
+    ensures { result ≡ thai.without_descender character }
+{
     match character {
         0xE0D => Some((0xF70F, 0xF89A)),
         0xE10 => Some((0xF700, 0xF89E)),

@@ -5,6 +5,8 @@ ghost use Rattle.std.specs.Prelude.{◌≡◌, ℕ, ◌+◌, ◌-◌, ◌<◌, �
 ghost use Rattle.glyph_lists.specs.Clusters.{clusters};
 ghost use Rattle.shaping_buffer.specs.KeepsClusters.{KeepsClusters};
 ghost use Rattle.rb_glyph.specs.declared.info.hb_glyph_info_t.{hb_glyph_info_t};
+ghost use Rattle.shaping_buffer.specs.Step.{output_glyph};
+ghost use Rattle.script_letters.specs.Thai as thai;
 ghost use Rattle.script_letters.specs.Thai.{is_sara_am, is_above_base, parts_of};
 ghost use Rattle.shaping_passes.specs.Refusals.{IsRefusal};
 
@@ -124,6 +126,9 @@ fn put_ring(buffer: &mut hb_buffer_t, ring: u32) -> Result<bool, AllocError>
     requires glyph { 0 < length buffer.old.input }
     ensures opened { IfOk result (λ _. buffer.new.have_output ≡ true) }
     ensures glyph { IfOk result (λ _. 0 < length buffer.new.input) }
+    ensures done { IfOk result (λ done. done ≡ (output_glyph ring buffer.old).done) }
+    ensures is { IfOk result (λ done. done ≡ true → buffer.new ≡ thai.ring_put ring buffer.old) }
+    ensures refused { IfOk result (λ done. done ≡ false → buffer.new ≡ (output_glyph ring buffer.old).state) }
     ensures refusal { IsRefusal false result buffer.new }
     ensures keeps { KeepsClusters buffer.old buffer.new }
 {
@@ -137,6 +142,7 @@ fn put_ring(buffer: &mut hb_buffer_t, ring: u32) -> Result<bool, AllocError>
 /// Makes the item that was put out last a mark that goes on with the grapheme before it.
 fn mark_last(buffer: &mut hb_buffer_t)
     requires { buffer.old.have_output ≡ true }
+    ensures is { buffer.new ≡ record buffer.old { out = thai.last_marked buffer.old.out } }
     ensures opened { buffer.new.have_output ≡ true }
     ensures input { length buffer.new.input ≡ length buffer.old.input }
     ensures keeps { KeepsClusters buffer.old buffer.new }
@@ -145,9 +151,10 @@ fn mark_last(buffer: &mut hb_buffer_t)
 }
 
 /// Makes the last of these items such a mark.
-#[tactic(auto, using(shaping_buffer::proofs::ClosedKeepsLemmas::clusters_written))]
+#[tactic(auto, using(shaping_buffer::proofs::ClosedKeepsLemmas::clusters_written, std::proofs::lemmas::List::set_past))]
 fn become_last_mark(infos: &mut [hb_glyph_info_t])
-    ensures { clusters infos.new ≡ clusters infos.old }
+    ensures is { infos.new ≡ thai.last_marked infos.old }
+    ensures clusters { clusters infos.new ≡ clusters infos.old }
 {
     let count = infos.len();
     if count > 0 {
@@ -157,9 +164,10 @@ fn become_last_mark(infos: &mut [hb_glyph_info_t])
 
 /// Moves the ring, which was put out last but one, in front of the marks above the consonant. Where there are none, both parts are in
 /// one cluster with the character before them.
-#[tactic(auto, using(shaping_buffer::proofs::ClosedKeepsLemmas::kept, script_items::proofs::MoveLemmas::part_is_one))]
+#[tactic(auto, using(crate::proofs::ThaiLemmas::rings, shaping_buffer::proofs::ClosedKeepsLemmas::kept))]
 fn move_ring(buffer: &mut hb_buffer_t)
     requires { buffer.old.have_output ≡ true }
+    ensures is { buffer.new ≡ thai.ring_in_place (length buffer.old.out) buffer.old }
     ensures opened { buffer.new.have_output ≡ true }
     ensures keeps { KeepsClusters buffer.old buffer.new }
 {
@@ -168,10 +176,51 @@ fn move_ring(buffer: &mut hb_buffer_t)
         return;
     }
     let start = run_start(buffer.out_info(), end - 2);
+    place_ring(buffer, start, end);
+}
+
+/// Puts the ring, which is the last but one of `end` glyphs, before the marks from `start` on, if there are any.
+#[tactic(auto, using(crate::proofs::ThaiLemmas::rings, shaping_buffer::proofs::ClosedKeepsLemmas::kept))]
+fn place_ring(buffer: &mut hb_buffer_t, start: usize, end: usize)
+    requires opened { buffer.old.have_output ≡ true }
+    requires order { start + 2 ≤ end }
+    requires last { end ≡ length buffer.old.out }
+    ensures is { buffer.new ≡ thai.ring_placed start end buffer.old }
+    ensures opened { buffer.new.have_output ≡ true }
+    ensures keeps { KeepsClusters buffer.old buffer.new }
+{
     if start + 2 < end {
-        merge_out(buffer, start, end);
-        move_out_back(buffer, start, end - 2, end - 1);
-    } else if start > 0 && buffer.cluster_level == HB_BUFFER_CLUSTER_LEVEL_MONOTONE_GRAPHEMES {
+        put_before_marks(buffer, start, end);
+    } else {
+        merge_ring(buffer, start, end);
+    }
+}
+
+/// Puts the ring, which is the last but one of `end` glyphs, before the marks from `start` on.
+#[tactic(auto, using(shaping_buffer::proofs::ClosedKeepsLemmas::kept, script_items::proofs::MoveLemmas::part_is_one))]
+fn put_before_marks(buffer: &mut hb_buffer_t, start: usize, end: usize)
+    requires opened { buffer.old.have_output ≡ true }
+    requires order { start + 2 < end }
+    requires last { end ≡ length buffer.old.out }
+    ensures is { buffer.new ≡ thai.ring_moved start end buffer.old }
+    ensures opened { buffer.new.have_output ≡ true }
+    ensures keeps { KeepsClusters buffer.old buffer.new }
+{
+    merge_out(buffer, start, end);
+    move_out_back(buffer, start, end - 2, end - 1);
+}
+
+/// Puts both parts into one cluster with the character before them, where clusters are graphemes.
+#[tactic(auto, using(crate::proofs::ThaiLemmas::rings, shaping_buffer::proofs::ClosedKeepsLemmas::kept))]
+fn merge_ring(buffer: &mut hb_buffer_t, start: usize, end: usize)
+    requires opened { buffer.old.have_output ≡ true }
+    requires order { start ≤ end }
+    requires last { end ≡ length buffer.old.out }
+    ensures is { buffer.new ≡ thai.ring_merged start end buffer.old }
+    ensures opened { buffer.new.have_output ≡ true }
+    ensures keeps { KeepsClusters buffer.old buffer.new }
+{
+    if start != 0 && buffer.cluster_level == HB_BUFFER_CLUSTER_LEVEL_MONOTONE_GRAPHEMES {
         buffer.merge_out_clusters(start - 1, end);
     }
 }

@@ -1,7 +1,9 @@
-use Rattle.shaping_buffer.proofs.ClosedKeepsLemmas.{keeps_with_input}
+use Rattle.script_items.proofs.WrittenLemmas.{keeps_mapped}
+use Rattle.script_joining.specs.Listed.{with_type}
+use Rattle.script_joining.proofs.FormsLemmas.{with_type-cluster}
 use Rattle.script_joining.proofs.arabic.masks.set_types_in.Goals as goal
 
 pub returns-clause-keeps : goal.returns-clause-keeps
 returns-clause-keeps c =
-    keeps_with_input c.args.buffer.now c.set_types.new.infos c.info_slice_mut.result.now c.info_slice_mut.ensures.value
-    c.set_types.ensures
+    keeps_mapped with_type c.args.buffer.now c.set_types.new.infos c.info_slice_mut.result.now c.info_slice_mut.ensures.value
+    c.set_types.ensures with_type-cluster

@@ -1,7 +1,9 @@
-use Rattle.shaping_buffer.proofs.ClosedKeepsLemmas.{keeps_with_input}
+use Rattle.script_items.proofs.WrittenLemmas.{keeps_mapped}
+use Rattle.script_joining.specs.ArabicMarks.{recorded}
+use Rattle.script_joining.proofs.ArabicMarksLemmas.{recorded-cluster}
 use Rattle.script_joining.proofs.arabic.stretching.record_in.Goals as goal
 
 pub returns-clause-keeps : goal.returns-clause-keeps
 returns-clause-keeps c =
-    keeps_with_input c.args.buffer.now c.record_all.new.infos c.info_slice_mut.result.now c.info_slice_mut.ensures.value
-    c.record_all.ensures
+    keeps_mapped recorded c.args.buffer.now c.record_all.new.infos c.info_slice_mut.result.now c.info_slice_mut.ensures.value
+    c.record_all.ensures recorded-cluster
