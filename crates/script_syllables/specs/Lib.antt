@@ -1,4 +1,7 @@
+pub mod Category
+pub mod Circle
 pub mod Composition
+pub mod Item
 pub mod KeepsNumbers
 pub mod Machines
 pub mod Moves

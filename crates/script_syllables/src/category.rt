@@ -1,5 +1,8 @@
 //! What a character is in a syllable of an Indic script, of Khmer or of Myanmar.
 
+ghost use Rattle.std.specs.Prelude.{◌≡◌};
+ghost use Rattle.script_syllables.specs.Category.{category_of_number, same_category, takes_signs};
+
 pub mod position;
 mod rows;
 pub mod search;
@@ -120,10 +123,34 @@ static CATEGORIES: [Category; 35] = [
 
 impl Category {
     /// The category with a number; `Other` where none has it.
-    pub fn numbered(number: u8) -> Category {
+    pub fn numbered(number: u8) -> Category
+        ensures { result ≡ category_of_number number }
+    {
         match CATEGORIES.get(usize::from(number)) {
             Some(category) => *category,
             None => Category::Other,
         }
+    }
+
+    /// Whether it is this one.
+    pub fn is(self, other: Category) -> bool
+        ensures { result ≡ same_category self other }
+    {
+        self == other
+    }
+
+    /// Whether it is a consonant, or what takes signs as one.
+    pub(crate) fn takes_signs(self) -> bool
+        ensures { result ≡ takes_signs self }
+    {
+        matches!(
+            self,
+            Category::Consonant
+                | Category::ConsonantWithStacker
+                | Category::Ra
+                | Category::Vowel
+                | Category::Placeholder
+                | Category::DottedCircle
+        )
     }
 }

@@ -1,8 +1,10 @@
 //! The dotted circle as the base of syllables that have none.
 
-ghost use Rattle.std.specs.Prelude.{◌≡◌, ◌<◌, ◌≤◌, true, false, length, IfOk, None};
-ghost use Rattle.glyph_lists.specs.Clusters.{clusters, occurs};
+ghost use Rattle.std.specs.Prelude.{◌≡◌, ◌<◌, ◌≤◌, ◌++◌, true, false, length, drop, IfOk, IfSome, None};
+ghost use Rattle.std.specs.List.{prefix_len};
 ghost use Rattle.shaping_buffer.specs.ClusterStep.{both};
+ghost use Rattle.script_syllables.specs.Circle as circles;
+ghost use Rattle.script_syllables.specs.Circle.{HasSides, IsRead, with_circles};
 ghost use Rattle.script_syllables.specs.KeepsNumbers.{KeepsNumbers};
 ghost use Rattle.shaping_passes.specs.Refusals.{IsRefusal};
 
@@ -70,6 +72,8 @@ pub fn insert_dotted_circles<F: FontForms>(
 #[tactic(auto, using(crate::proofs::NumbersLemmas::numbered))]
 fn put_circles(buffer: &mut hb_buffer_t, circle: &Circle) -> Result<bool, AllocError>
     requires { buffer.old.have_output ≡ true }
+    ensures is { IfOk result (λ done. done ≡ true
+        → both buffer.new ≡ buffer.old.out ++ with_circles circle.now 0 buffer.old.input) }
     ensures opened { IfOk result (λ _. buffer.new.have_output ≡ true) }
     ensures refusal { IsRefusal false result buffer.new }
     ensures keeps { KeepsNumbers buffer.old buffer.new }
@@ -77,7 +81,7 @@ fn put_circles(buffer: &mut hb_buffer_t, circle: &Circle) -> Result<bool, AllocE
     let mut last = 0;
     for _turn in 0..buffer.len() {
         if buffer.lookahead_len() == 0 {
-            break;
+            return Ok(true);
         }
         match read_next(buffer, circle, last)? {
             Some(syllable) => last = syllable,
@@ -93,39 +97,74 @@ fn put_circles(buffer: &mut hb_buffer_t, circle: &Circle) -> Result<bool, AllocE
 fn read_next(buffer: &mut hb_buffer_t, circle: &Circle, last: u8) -> Result<Option<u8>, AllocError>
     requires opened { buffer.old.have_output ≡ true }
     requires glyph { 0 < length buffer.old.input }
+    ensures reads { IfOk result (λ read. IfSome read
+        (λ next. IsRead circle.now (with_circles circle.now last buffer.old.input) buffer.old next buffer.new)) }
+    ensures opened { IfOk result (λ _. buffer.new.have_output ≡ true) }
+    ensures refusal { IsRefusal None result buffer.new }
+    ensures keeps { KeepsNumbers buffer.old buffer.new }
+{
+    if begins_broken(circle, last, buffer.cur(0)) {
+        return read_broken(buffer, circle);
+    }
+    if !buffer.next_glyph()? {
+        return Ok(None);
+    }
+    Ok(Some(last))
+}
+
+/// Reads the rephs of a broken syllable, or where it has none its first item, and puts the circle out.
+#[tactic(auto, using(crate::proofs::NumbersLemmas::numbered))]
+fn read_broken(buffer: &mut hb_buffer_t, circle: &Circle) -> Result<Option<u8>, AllocError>
+    requires opened { buffer.old.have_output ≡ true }
+    requires glyph { 0 < length buffer.old.input }
+    ensures reads { IfOk result (λ read. IfSome read
+        (λ next. IsRead circle.now (circles.first_circled circle.now buffer.old.input) buffer.old next buffer.new)) }
     ensures opened { IfOk result (λ _. buffer.new.have_output ≡ true) }
     ensures refusal { IsRefusal None result buffer.new }
     ensures keeps { KeepsNumbers buffer.old buffer.new }
 {
     let syllable = buffer.cur(0).syllable();
-    let is_first = syllable != last && kind_of(buffer.cur(0)) == circle.kind.broken;
-    if is_first {
-        let rephs = reph_count(buffer.info(), syllable, circle.kind.repha);
-        if !put_circle(buffer, circle, rephs)? {
-            return Ok(None);
-        }
-        if rephs > 0 || buffer.lookahead_len() == 0 {
-            return Ok(Some(syllable));
-        }
+    let rephs = reph_count(buffer.info(), syllable, circle.kind.repha);
+    if !put_circle(buffer, circle, rephs)? {
+        return Ok(None);
+    }
+    if rephs > 0 {
+        return Ok(Some(syllable));
     }
     if !buffer.next_glyph()? {
         return Ok(None);
     }
-    Ok(Some(if is_first { syllable } else { last }))
+    Ok(Some(syllable))
+}
+
+/// Whether an item is the first of a broken syllable, where the last of these had this number.
+fn begins_broken(circle: &Circle, last: u8, info: &hb_glyph_info_t) -> bool
+    ensures { result ≡ circles.begins_broken circle.now last info.now }
+{
+    info.syllable() != last && kind_of(info) == circle.kind.broken
 }
 
 /// How many items at the start of a list are rephs of a syllable.
 fn reph_count(infos: &[hb_glyph_info_t], syllable: u8, repha: Option<u8>) -> usize
-    ensures { result ≤ length infos.now }
+    ensures within { result ≤ length infos.now }
+    ensures is { result ≡ prefix_len (circles.is_reph repha syllable) infos.now }
 {
-    let mut count = 0;
-    while count < infos.len()
-        && infos[count].syllable() == syllable
-        && Some(category_byte(&infos[count])) == repha
-    {
-        count += 1;
+    for count in 0..infos.len() {
+        if !is_reph(&infos[count], syllable, repha) {
+            return count;
+        }
     }
-    count
+    infos.len()
+}
+
+/// Whether an item is a reph of a syllable.
+fn is_reph(info: &hb_glyph_info_t, syllable: u8, repha: Option<u8>) -> bool
+    ensures { result ≡ circles.is_reph repha syllable info.now }
+{
+    match repha {
+        Some(category) => info.syllable() == syllable && category_byte(info) == category,
+        None => false,
+    }
 }
 
 /// Reads so many rephs, and puts a circle out behind them, in the cluster and with the mask of the first item.
@@ -134,6 +173,8 @@ fn put_circle(buffer: &mut hb_buffer_t, circle: &Circle, rephs: usize) -> Result
     requires opened { buffer.old.have_output ≡ true }
     requires glyph { 0 < length buffer.old.input }
     requires rephs { rephs ≤ length buffer.old.input }
+    ensures puts { IfOk result (λ done. done ≡ true → HasSides
+        (buffer.old.out ++ circles.circle_behind circle.now rephs buffer.old.input) (drop rephs buffer.old.input) buffer.new) }
     ensures opened { IfOk result (λ _. buffer.new.have_output ≡ true) }
     ensures refusal { IsRefusal false result buffer.new }
     ensures keeps { KeepsNumbers buffer.old buffer.new }
@@ -147,16 +188,18 @@ fn put_circle(buffer: &mut hb_buffer_t, circle: &Circle, rephs: usize) -> Result
 
 /// A circle in the cluster, with the mask and in the syllable of an item.
 fn circle_at(circle: &Circle, current: &hb_glyph_info_t) -> hb_glyph_info_t
-    ensures { result.cluster ≡ current.now.cluster }
+    ensures is { result ≡ circles.circle_at circle.now current.now }
+    ensures cluster { result.cluster ≡ current.now.cluster }
 {
     let mut info = hb_glyph_info_t {
         glyph_id: circle.glyph,
         mask: current.mask,
         cluster: current.cluster,
-        ..hb_glyph_info_t::default()
+        var1: 0,
+        var2: 0,
     };
+    info.set_syllable(current.syllable());
     set_category_byte(&mut info, circle.kind.category);
     set_position(&mut info, circle.kind.position);
-    info.set_syllable(current.syllable());
     info
 }

@@ -1,8 +1,11 @@
 //! What the shapers of syllables keep with an item: its category and its position, in the bytes that HarfBuzz's
 //! `hb-ot-shaper.hh` gives them, the third and the fourth of `var2`; and what became of its glyph.
 
-ghost use Rattle.std.specs.Prelude.{◌≡◌};
+ghost use Rattle.std.specs.Prelude.{◌≡◌, ◌≤◌, not, length, map};
+ghost use Rattle.std.specs.List.{position_or_len};
 ghost use Rattle.glyph_lists.specs.Clusters.{clusters};
+ghost use Rattle.glyph_lists.specs.Marks.{with_glyph_flags};
+ghost use Rattle.script_syllables.specs.Item as items;
 
 use crate::category::Category;
 use crate::category::position::Position;
@@ -10,53 +13,99 @@ use crate::category::search::category_of;
 use rb_glyph::{Flags, GlyphPropsFlags, hb_glyph_info_t};
 
 /// The byte of an item's category.
-pub fn category_byte(info: &hb_glyph_info_t) -> u8 {
+pub fn category_byte(info: &hb_glyph_info_t) -> u8
+    ensures { result ≡ items.category_byte info.now }
+{
     (info.var2 / 0x1_0000 % 0x100) as u8
 }
 
 /// Sets the byte of an item's category.
 pub fn set_category_byte(info: &mut hb_glyph_info_t, byte: u8)
-    ensures { info.new.cluster ≡ info.old.cluster }
+    ensures is { info.new ≡ items.with_category_byte byte info.old }
+    ensures cluster { info.new.cluster ≡ info.old.cluster }
 {
     info.var2 = info.var2 & 0xFF00_FFFF | u32::from(byte) * 0x1_0000;
 }
 
 /// The category of an item.
-pub fn category(info: &hb_glyph_info_t) -> Category {
+pub fn category(info: &hb_glyph_info_t) -> Category
+    ensures { result ≡ items.category info.now }
+{
     Category::numbered(category_byte(info))
 }
 
 /// Sets the category of an item.
 pub fn set_category(info: &mut hb_glyph_info_t, category: Category)
-    ensures { info.new.cluster ≡ info.old.cluster }
+    ensures is { info.new ≡ items.with_category category info.old }
+    ensures cluster { info.new.cluster ≡ info.old.cluster }
 {
     set_category_byte(info, category as u8);
 }
 
 /// Where an item stands in its syllable.
-pub fn position(info: &hb_glyph_info_t) -> Position {
+pub fn position(info: &hb_glyph_info_t) -> Position
+    ensures { result ≡ items.position info.now }
+{
     Position::numbered((info.var2 / 0x100_0000) as u8)
 }
 
 /// Sets where an item stands in its syllable.
 pub fn set_position(info: &mut hb_glyph_info_t, position: Position)
-    ensures { info.new.cluster ≡ info.old.cluster }
+    ensures is { info.new ≡ items.with_position position info.old }
+    ensures cluster { info.new.cluster ≡ info.old.cluster }
 {
     info.var2 = info.var2 % 0x100_0000 + u32::from(position as u8) * 0x100_0000;
 }
 
 /// Whether an item is a consonant, or what takes signs as one. What became a ligature is none.
-pub fn is_consonant(info: &hb_glyph_info_t) -> bool {
-    !is_ligated(info)
-        && matches!(
-            category(info),
-            Category::Consonant
-                | Category::ConsonantWithStacker
-                | Category::Ra
-                | Category::Vowel
-                | Category::Placeholder
-                | Category::DottedCircle
-        )
+pub fn is_consonant(info: &hb_glyph_info_t) -> bool
+    ensures { result ≡ items.is_consonant info.now }
+{
+    !is_ligated(info) && category(info).takes_signs()
+}
+
+/// Whether an item has a category, and is no ligature.
+pub fn is_one(info: &hb_glyph_info_t, wanted: Category) -> bool
+    ensures { result ≡ items.is_one wanted info.now }
+{
+    !is_ligated(info) && category(info).is(wanted)
+}
+
+/// Whether the item is a joiner or a non-joiner, and no ligature.
+pub fn is_joiner(info: &hb_glyph_info_t) -> bool
+    ensures { result ≡ items.is_joiner info.now }
+{
+    is_one(info, Category::Joiner) || is_one(info, Category::NonJoiner)
+}
+
+/// Whether the item is a halant, and no ligature.
+pub fn is_halant(info: &hb_glyph_info_t) -> bool
+    ensures { result ≡ items.is_halant info.now }
+{
+    is_one(info, Category::Halant)
+}
+
+/// The place behind the joiners that stand from a place on.
+pub fn behind_joiners(infos: &[hb_glyph_info_t], start: usize) -> usize
+    ensures { result ≡ items.behind_joiners infos.now start }
+{
+    match infos.get(start..) {
+        Some(behind) => start + joiners(behind),
+        None => start,
+    }
+}
+
+/// How many joiners a list begins with.
+fn joiners(infos: &[hb_glyph_info_t]) -> usize
+    ensures is { result ≡ position_or_len (λ g. not (items.is_joiner g)) infos.now }
+    ensures within { result ≤ length infos.now }
+{
+    for place in 0..infos.len() {
+        if !is_joiner(&infos[place]) {
+            return place;
+        }
+    }
+    infos.len()
 }
 
 /// Lets each character keep its category and its position.
@@ -79,49 +128,84 @@ fn place_in(info: &mut hb_glyph_info_t, category: Category, position: Position)
 }
 
 /// Gives the items from `start` to `end` the features of a mask.
-#[tactic(auto, using(shaping_buffer::proofs::ClosedKeepsLemmas::clusters_written))]
+#[tactic(auto, using(crate::proofs::MovedLemmas::same))]
 pub fn add_mask(infos: &mut [hb_glyph_info_t], start: usize, end: usize, mask: u32)
-    ensures { clusters infos.new ≡ clusters infos.old }
+    ensures is { infos.new ≡ items.masked mask start end infos.old }
+    ensures same { clusters infos.new ≡ clusters infos.old }
 {
-    for place in start..end.min(infos.len()) {
-        infos[place].mask |= mask;
+    let end = end.min(infos.len());
+    if start <= end {
+        add_to_all(&mut infos[start..end], mask);
     }
 }
 
+/// Gives all items of a list the features of a mask.
+#[tactic(auto, using(glyph_lists::proofs::MapLemmas::walks, shaping_buffer::proofs::ClosedKeepsLemmas::clusters_written))]
+fn add_to_all(infos: &mut [hb_glyph_info_t], mask: u32)
+    ensures is { infos.new ≡ map (with_glyph_flags mask) infos.old }
+    ensures same { clusters infos.new ≡ clusters infos.old }
+{
+    for info in infos.iter_mut() {
+        add_to(info, mask);
+    }
+}
+
+/// Gives an item the features of a mask.
+#[tactic(auto, unfolding(glyph_lists::specs::Marks::with_glyph_flags))]
+fn add_to(info: &mut hb_glyph_info_t, mask: u32)
+    ensures is { info.new ≡ with_glyph_flags mask info.old }
+    ensures cluster { info.new.cluster ≡ info.old.cluster }
+{
+    info.mask |= mask;
+}
+
 /// Whether a glyph has one of these properties.
-fn has(info: &hb_glyph_info_t, properties: GlyphPropsFlags) -> bool {
+fn has(info: &hb_glyph_info_t, properties: GlyphPropsFlags) -> bool
+    ensures { result ≡ items.has_property properties.0 info.now }
+{
     info.glyph_props() & properties.bits() != 0
 }
 
 /// Whether a lookup put the glyph there.
-pub fn is_substituted(info: &hb_glyph_info_t) -> bool {
+pub fn is_substituted(info: &hb_glyph_info_t) -> bool
+    ensures { result ≡ items.is_substituted info.now }
+{
     has(info, GlyphPropsFlags::SUBSTITUTED)
 }
 
 /// Whether the glyph is a ligature that a lookup made.
-pub fn is_ligated(info: &hb_glyph_info_t) -> bool {
+pub fn is_ligated(info: &hb_glyph_info_t) -> bool
+    ensures { result ≡ items.is_ligated info.now }
+{
     has(info, GlyphPropsFlags::LIGATED)
 }
 
 /// Whether the glyph is one of several that a lookup made of one.
-pub fn is_multiplied(info: &hb_glyph_info_t) -> bool {
+pub fn is_multiplied(info: &hb_glyph_info_t) -> bool
+    ensures { result ≡ items.is_multiplied info.now }
+{
     has(info, GlyphPropsFlags::MULTIPLIED)
 }
 
 /// Whether the glyph is a ligature, and not one of several that were made of it.
-pub fn is_whole_ligature(info: &hb_glyph_info_t) -> bool {
+pub fn is_whole_ligature(info: &hb_glyph_info_t) -> bool
+    ensures { result ≡ items.is_whole_ligature info.now }
+{
     is_ligated(info) && !is_multiplied(info)
 }
 
 /// Forgets that the glyph is a ligature and one of several.
 pub fn forget_ligature(info: &mut hb_glyph_info_t)
-    ensures { info.new.cluster ≡ info.old.cluster }
+    ensures is { info.new ≡ items.without_ligature info.old }
+    ensures cluster { info.new.cluster ≡ info.old.cluster }
 {
     let forgotten = GlyphPropsFlags::LIGATED.bits() | GlyphPropsFlags::MULTIPLIED.bits();
     info.set_glyph_props(info.glyph_props() & !forgotten);
 }
 
 /// Whether syllables pass over an item.
-pub(crate) fn is_passed_over(info: &hb_glyph_info_t) -> bool {
-    info.var2 >= 0x100_0000
+pub(crate) fn is_passed_over(info: &hb_glyph_info_t) -> bool
+    ensures { result ≡ items.is_passed_over info.now }
+{
+    info.var2 / 0x100_0000 > 0
 }

@@ -1,11 +1,12 @@
-//! Features that are asked for together.
+//! Features that are asked for together, and the masks that they have then.
 
 ghost use Rattle.std.specs.Prelude.{◌≡◌, ◌++◌, [], ◌∷◌, length, map, replicate, IfOk};
 ghost use Rattle.ot_map.specs.Asked.{Asks, in_stages, of_some};
 ghost use Rattle.ot_map.specs.Pauses.{HasSamePauses};
 ghost use Rattle.ot_map.specs.declared.plan.Pause.TheVariants.{Nothing};
+ghost use Rattle.script_syllables.specs.SyllableFeatures.{IsOneMask};
 
-use ot_map::{FeatureFlags, Pause, PlanBuilder};
+use ot_map::{FeatureFlags, LayoutPlan, Pause, PlanBuilder};
 use rb_common::Tag;
 use std::alloc::AllocError;
 
@@ -80,4 +81,11 @@ fn add_one(
     let flags = FeatureFlags { is_global, ..flags };
     builder.add_feature(Tag::from_bytes(name), flags, 1)?;
     Ok(())
+}
+
+/// The mask of the value 1 of a feature; 0 where the plan has none with this name.
+pub fn one_mask(layout: &LayoutPlan, name: &[u8; 4]) -> u32
+    ensures { IsOneMask layout.now name.now result }
+{
+    layout.one_mask(Tag::from_bytes(name))
 }

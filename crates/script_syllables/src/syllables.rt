@@ -4,6 +4,7 @@ ghost use Rattle.std.specs.Prelude.{◌≡◌, ◌<◌, ◌≤◌, ◌-◌, fals
 ghost use Rattle.glyph_lists.specs.Clusters.{clusters};
 ghost use Rattle.glyph_lists.specs.Groups.{group_end, share_cluster};
 ghost use Rattle.shaping_buffer.specs.KeepsClusters.{KeepsClusters};
+ghost use Rattle.script_syllables.specs.Item.{items_between, kind_at, syllable_kind};
 
 use crate::grammar::Grammar;
 use glyph_lists::groups::group_end;
@@ -121,12 +122,16 @@ pub fn syllable_end(infos: &[hb_glyph_info_t], start: usize) -> usize
 }
 
 /// The kind of the syllable that an item is in.
-pub(crate) fn kind_of(info: &hb_glyph_info_t) -> u8 {
+pub(crate) fn kind_of(info: &hb_glyph_info_t) -> u8
+    ensures { result ≡ syllable_kind info.now }
+{
     info.syllable() % 16
 }
 
 /// The kind of the syllable that the item at a place is in; that of none where there is no item.
-pub fn kind_at(infos: &[hb_glyph_info_t], place: usize) -> u8 {
+pub fn kind_at(infos: &[hb_glyph_info_t], place: usize) -> u8
+    ensures { result ≡ kind_at infos.now place }
+{
     match infos.get(place) {
         Some(info) => kind_of(info),
         None => NO_KIND,
@@ -134,8 +139,13 @@ pub fn kind_at(infos: &[hb_glyph_info_t], place: usize) -> u8 {
 }
 
 /// The items of a range; none where it does not lie in the list.
-pub fn syllable<'a>(infos: &'a [hb_glyph_info_t], range: &Range<usize>) -> &'a [hb_glyph_info_t] {
-    infos.get(range.start..range.end).unwrap_or(&[])
+pub fn syllable<'a>(infos: &'a [hb_glyph_info_t], range: &Range<usize>) -> &'a [hb_glyph_info_t]
+    ensures { result.now ≡ items_between range.now.start range.now.end infos.now }
+{
+    match infos.get(range.start..range.end) {
+        Some(items) => items,
+        None => &[],
+    }
 }
 
 /// A range; one of nothing where it does not lie in a list of so many items.

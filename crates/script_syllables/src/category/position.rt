@@ -1,5 +1,8 @@
 //! Where a character stands in a syllable.
 
+ghost use Rattle.std.specs.Prelude.{◌≡◌};
+ghost use Rattle.script_syllables.specs.Category.{position_of_number, same_position};
+
 /// Where a character stands in a syllable, from the left to the right as it is seen.
 #[derive(Clone, Copy, PartialEq, Eq, PartialOrd, Ord)]
 pub enum Position {
@@ -56,10 +59,19 @@ static POSITIONS: [Position; 15] = [
 
 impl Position {
     /// The position with a number; `End` where none has it.
-    pub fn numbered(number: u8) -> Position {
+    pub fn numbered(number: u8) -> Position
+        ensures { result ≡ position_of_number number }
+    {
         match POSITIONS.get(usize::from(number)) {
             Some(position) => *position,
             None => Position::End,
         }
+    }
+
+    /// Whether it is this one.
+    pub fn is(self, other: Position) -> bool
+        ensures { result ≡ same_position self other }
+    {
+        self == other
     }
 }
