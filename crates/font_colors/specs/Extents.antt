@@ -1,6 +1,6 @@
 -- Boxes of what is drawn.
 use Rattle.std.specs.Prelude.{Bool, ◌||◌}
-use Rattle.std.specs.Float.Ieee.{le}
+use Rattle.std.specs.Float.Ieee.{Float, le, lt}
 use Rattle.font_variations.specs.Rounding.{greater, lesser}
 use Rattle.font_colors.specs.declared.extents.Extents.{Extents}
 
@@ -25,3 +25,11 @@ common one other = record {
 -- whether a box has no width or no height
 abbrev pub is_empty : Extents → Bool
 is_empty e = le e.x_max e.x_min || le e.y_max e.y_min
+
+-- whether a box is around nothing: it ends before it begins
+abbrev pub is_void : Extents → Bool
+is_void e = lt e.x_max e.x_min
+
+-- the box around a point
+abbrev pub box_at : Float → Float → Extents
+box_at x y = record { x_min = x; y_min = y; x_max = x; y_max = y }

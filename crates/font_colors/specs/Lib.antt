@@ -2,6 +2,7 @@ pub mod Bounds
 pub mod Cbdt
 pub mod Colr
 pub mod Extents
+pub mod Paints
 pub mod Pixels
 pub mod Sbix
 pub mod Strikes

@@ -1,6 +1,9 @@
 //! Sines, cosines and tangents, of floats of 32 bits by way of 64: so they do not hang on a system's library.
 
-use std::num::nearest_f64_to_f32_with_nan;
+ghost use Rattle.std.specs.Prelude.{◌≡◌};
+ghost use Rattle.font_colors.specs.Transform.{cosine, cosine_in, near_cosine, near_sine, series, sine, sine_in, tangent, wide_cosine, wide_sine};
+
+use std::num::{nearest_f64_to_f32_with_nan, nearest_i64_to_f64};
 
 /// The float that HarfBuzz has for π.
 const PI: f32 = 3.1415927;
@@ -12,7 +15,11 @@ const QUARTER: f64 = 1.5707963267341256;
 const REST: f64 = 0.00000000006077100506506192;
 
 /// The sine and the cosine of so many halves of a circle.
-pub(crate) fn sine_and_cosine(halves: f32) -> (f32, f32) {
+#[tactic(auto, using(crate::proofs::FloatLemmas::angles))]
+pub(crate) fn sine_and_cosine(halves: f32) -> (f32, f32)
+    ensures sine { result.0 ≡ sine halves }
+    ensures cosine { result.1 ≡ cosine halves }
+{
     let (sine, cosine) = wide_sine_and_cosine(f64::from(halves * PI));
     (
         nearest_f64_to_f32_with_nan(sine),
@@ -21,17 +28,32 @@ pub(crate) fn sine_and_cosine(halves: f32) -> (f32, f32) {
 }
 
 /// The tangent of so many halves of a circle.
-pub(crate) fn tangent(halves: f32) -> f32 {
+#[tactic(auto, using(crate::proofs::FloatLemmas::angles))]
+pub(crate) fn tangent(halves: f32) -> f32
+    ensures { result ≡ tangent halves }
+{
     let (sine, cosine) = wide_sine_and_cosine(f64::from(halves * PI));
     nearest_f64_to_f32_with_nan(sine / cosine)
 }
 
 /// The sine and the cosine of an angle: by what is left beside whole quarters of a circle.
-fn wide_sine_and_cosine(angle: f64) -> (f64, f64) {
+#[tactic(auto, using(crate::proofs::FloatLemmas::angles), unfolding(crate::specs::Transform::wide_sine, crate::specs::Transform::wide_cosine))]
+fn wide_sine_and_cosine(angle: f64) -> (f64, f64)
+    ensures sine { result.0 ≡ wide_sine angle }
+    ensures cosine { result.1 ≡ wide_cosine angle }
+{
     let quarters = (angle / QUARTER + 0.5).floor();
     let rest = angle - quarters * QUARTER - quarters * REST;
-    let (sine, cosine) = (near_sine(rest), near_cosine(rest));
     let quadrant = quarters - 4.0 * (quarters / 4.0).floor();
+    turned(quadrant, near_sine(rest), near_cosine(rest))
+}
+
+/// The sine and the cosine of an angle in a quadrant, by those of what it has more than whole quarters of a circle.
+#[tactic(auto, using(crate::proofs::FloatLemmas::literals))]
+fn turned(quadrant: f64, sine: f64, cosine: f64) -> (f64, f64)
+    ensures sine { result.0 ≡ sine_in quadrant sine cosine }
+    ensures cosine { result.1 ≡ cosine_in quadrant sine cosine }
+{
     if quadrant == 0.0 {
         (sine, cosine)
     } else if quadrant == 1.0 {
@@ -43,30 +65,33 @@ fn wide_sine_and_cosine(angle: f64) -> (f64, f64) {
     }
 }
 
-/// The sine of at most an eighth of a circle, by its series: each term is the one before, times the square, through two numbers.
-fn near_sine(angle: f64) -> f64 {
-    let square = angle * angle;
-    let mut sum = angle;
-    let mut term = angle;
-    let mut number = 2.0;
-    for _ in 0..8 {
-        term = -term * square / (number * (number + 1.0));
-        sum += term;
-        number += 2.0;
-    }
-    sum
+/// The sine of at most an eighth of a circle.
+fn near_sine(angle: f64) -> f64
+    ensures { result ≡ near_sine angle }
+{
+    series(angle, angle, 2)
 }
 
-/// The cosine of at most an eighth of a circle, by its series.
-fn near_cosine(angle: f64) -> f64 {
+/// The cosine of at most an eighth of a circle.
+#[tactic(auto, using(crate::proofs::FloatLemmas::literals))]
+fn near_cosine(angle: f64) -> f64
+    ensures { result ≡ near_cosine angle }
+{
+    series(angle, 1.0, 1)
+}
+
+/// The sum of nine terms of a series: each is the one before, times the square of the angle, through two numbers in a row.
+#[tactic(auto, using(crate::proofs::FloatLemmas::literals), unfolding(crate::specs::Transform::series, crate::specs::Transform::term))]
+fn series(angle: f64, first: f64, from: u8) -> f64
+    ensures { result ≡ series angle first from 8 }
+{
     let square = angle * angle;
-    let mut sum = 1.0;
-    let mut term = 1.0;
-    let mut number = 1.0;
-    for _ in 0..8 {
+    let mut sum = first;
+    let mut term = first;
+    for step in 0..8u32 {
+        let number = nearest_i64_to_f64(i64::from(u32::from(from) + 2 * step));
         term = -term * square / (number * (number + 1.0));
         sum += term;
-        number += 2.0;
     }
     sum
 }

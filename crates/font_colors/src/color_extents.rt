@@ -1,11 +1,15 @@
 //! The boxes of glyphs that are drawn in colours (OpenType specification, "COLR - Color Table", "Glyph metrics and boundedness").
 
+ghost use Rattle.std.specs.Prelude.{◌≡◌};
+ghost use Rattle.font_colors.specs.Paints.{whole};
+
 use crate::bounds::{Bounds, Status};
 use crate::colr::ColrTable;
 use crate::extents::Extents;
 use crate::outlines::DrawnOutlines;
 use crate::painter::{Canvas, DEEPEST_PAINT, Painter, Visits};
 use crate::transform::Transform;
+use font_gvar::glyf::NO_BOX;
 use rb_common::GlyphId;
 use rb_glyph::GlyphExtents;
 use std::alloc::{AllocError, Global};
@@ -85,9 +89,12 @@ impl<'p> Painter<'p> {
 }
 
 /// A box in whole numbers: its left side, its top, its width and its height without their fractions, as in HarfBuzz.
-fn whole(extents: &Extents) -> GlyphExtents {
+#[tactic(auto, using(font_variations::proofs::FloatLemmas::literals))]
+fn whole(extents: &Extents) -> GlyphExtents
+    ensures { result ≡ whole extents.now }
+{
     if extents.is_void() {
-        return GlyphExtents::default();
+        return NO_BOX;
     }
     GlyphExtents {
         x_bearing: saturating_f32_to_i32(extents.x_min),

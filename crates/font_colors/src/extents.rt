@@ -18,7 +18,7 @@ pub(crate) struct Extents {
 }
 
 impl Extents {
-    ghost use Rattle.font_colors.specs.Extents.{common, is_empty, joined};
+    ghost use Rattle.font_colors.specs.Extents.{box_at, common, is_empty, is_void, joined};
 
     /// The box around nothing. HarfBuzz takes its corners for points where such a box is turned or moved.
     pub(crate) const VOID: Extents = Extents {
@@ -36,7 +36,9 @@ impl Extents {
     }
 
     /// Whether the box is around nothing.
-    pub(crate) fn is_void(&self) -> bool {
+    pub(crate) fn is_void(&self) -> bool
+        ensures { result ≡ is_void self.now }
+    {
         self.x_min > self.x_max
     }
 
@@ -64,18 +66,15 @@ impl Extents {
         }
     }
 
-    /// The least box around this one and a point.
-    pub(crate) fn including(&self, x: f32, y: f32) -> Extents {
-        let point = Extents {
+    /// The box around a point.
+    pub(crate) fn at(x: f32, y: f32) -> Extents
+        ensures { result ≡ box_at x y }
+    {
+        Extents {
             x_min: x,
             y_min: y,
             x_max: x,
             y_max: y,
-        };
-        if self.is_void() {
-            point
-        } else {
-            self.joined(&point)
         }
     }
 }

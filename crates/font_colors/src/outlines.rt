@@ -1,5 +1,8 @@
 //! The boxes of outlines, as they are drawn.
 
+ghost use Rattle.std.specs.Prelude.{◌≡◌};
+ghost use Rattle.font_colors.specs.Paints.{box_in_size, in_font_units, path_box, points_box, root};
+
 use crate::extents::Extents;
 use font_gvar::{GlyphSources, PointBounds, varied_outline};
 use font_outlines::path::Bounds as PathBounds;
@@ -52,7 +55,10 @@ impl DrawnOutlines<'_> {
     }
 
     /// The box of points in font units.
-    fn of_points(&self, bounds: &PointBounds) -> Extents {
+    #[tactic(auto, using(crate::proofs::FloatLemmas::sides))]
+    fn of_points(&self, bounds: &PointBounds) -> Extents
+        ensures { result ≡ points_box self.now.scale bounds.now }
+    {
         if bounds.min.x > bounds.max.x {
             return Extents::VOID;
         }
@@ -60,7 +66,10 @@ impl DrawnOutlines<'_> {
     }
 
     /// The box of a path.
-    fn of_path(&self, bounds: &PathBounds) -> Extents {
+    #[tactic(auto, using(crate::proofs::FloatLemmas::sides))]
+    fn of_path(&self, bounds: &PathBounds) -> Extents
+        ensures { result ≡ path_box self.now.scale bounds.now }
+    {
         if bounds.min.x > bounds.max.x {
             return Extents::VOID;
         }
@@ -71,21 +80,27 @@ impl DrawnOutlines<'_> {
     }
 
     /// The box between two corners in font units at the size.
-    fn scaled(&self, low: (f32, f32), high: (f32, f32)) -> Extents {
+    fn scaled(&self, low: (f32, f32), high: (f32, f32)) -> Extents
+        ensures { result ≡ box_in_size self.now.scale low.0 low.1 high.0 high.1 }
+    {
         let x = root(self.scale.x, self.scale.units_per_em);
         let y = root(self.scale.y, self.scale.units_per_em);
-        Extents::VOID
-            .including(low.0 * x, low.1 * y)
-            .including(high.0 * x, high.1 * y)
+        Extents::at(low.0 * x, low.1 * y).joined(&Extents::at(high.0 * x, high.1 * y))
     }
 }
 
 /// How long a font unit is where an em is so long.
-pub(crate) fn root(size: i32, units_per_em: u16) -> f32 {
+#[tactic(auto, using(font_variations::proofs::FloatLemmas::literals))]
+pub(crate) fn root(size: i32, units_per_em: u16) -> f32
+    ensures { result ≡ root size units_per_em }
+{
     nearest_i64_to_f32(i64::from(size)) / nearest_i64_to_f32(i64::from(units_per_em))
 }
 
 /// A number of 65,536ths of a font unit, in font units.
-fn units(number: i64) -> f32 {
+#[tactic(auto, using(font_variations::proofs::FloatLemmas::powers))]
+fn units(number: i64) -> f32
+    ensures { result ≡ in_font_units number }
+{
     nearest_i64_to_f32(number) / 65536.0
 }

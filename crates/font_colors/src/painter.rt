@@ -1,5 +1,9 @@
 //! How far a graph of paints reaches (OpenType specification, "COLR - Color Table", "Glyph metrics and boundedness").
 
+ghost use Rattle.std.specs.Prelude.{◌≡◌, ◌≤◌, ◌∷◌, [], IfOk, IfSome, option_map};
+ghost use Rattle.font_colors.specs.Paints.{behind, clipped, extents_of, filled, first_set, inverse_root, inverse_root_transform, matrix_numbers, matrix_of, numbers_of, root_transform, transform_of, turned_by, value_count};
+ghost use Rattle.font_colors.specs.Paints.{center_x, center_y};
+
 use crate::bounds::Bounds;
 use crate::colr::ColrTable;
 use crate::extents::Extents;
@@ -30,7 +34,9 @@ pub(crate) struct Canvas {
 
 impl Canvas {
     /// The same canvas, of which all but a box is cut off.
-    pub(crate) fn clipped(&self, extents: &Extents) -> Canvas {
+    pub(crate) fn clipped(&self, extents: &Extents) -> Canvas
+        ensures { result ≡ clipped self.now extents.now }
+    {
         let extents = self.transform.transformed(extents);
         Canvas {
             transform: self.transform,
@@ -39,7 +45,9 @@ impl Canvas {
     }
 
     /// The same canvas with another transform.
-    fn turned(&self, transform: Transform) -> Canvas {
+    fn turned(&self, transform: Transform) -> Canvas
+        ensures { result ≡ record self.now { transform = transform } }
+    {
         Canvas {
             transform,
             clip: self.clip,
@@ -60,7 +68,11 @@ pub(crate) struct Visits {
 
 impl Visits {
     /// A walk that has met a glyph.
-    pub(crate) fn new(alloc: Global, glyph: GlyphId) -> Result<Self, AllocError> {
+    pub(crate) fn new(alloc: Global, glyph: GlyphId) -> Result<Self, AllocError>
+        ensures left { IfOk result (λ visits. visits.left ≡ 2048) }
+        ensures glyphs { IfOk result (λ visits. visits.glyphs.items ≡ glyph.0 ∷ []) }
+        ensures layers { IfOk result (λ visits. visits.layers.items ≡ []) }
+    {
         let mut glyphs = Vec::new(alloc);
         glyphs.push(glyph.0)?;
         Ok(Visits {
@@ -213,7 +225,10 @@ impl<'p> Painter<'p> {
     }
 
     /// The transform that brings font units to the size.
-    pub(crate) fn root_transform(self) -> Transform {
+    #[tactic(auto, using(font_variations::proofs::FloatLemmas::literals))]
+    pub(crate) fn root_transform(self) -> Transform
+        ensures { result ≡ root_transform self.entry.outlines.now.scale }
+    {
         let scale = &self.outlines.scale;
         Transform::IDENTITY.scaled(
             root(scale.x, scale.units_per_em),
@@ -222,7 +237,10 @@ impl<'p> Painter<'p> {
     }
 
     /// The transform that brings the size to font units.
-    fn inverse_root_transform(self) -> Transform {
+    #[tactic(auto, using(font_variations::proofs::FloatLemmas::literals))]
+    fn inverse_root_transform(self) -> Transform
+        ensures { result ≡ inverse_root_transform self.entry.outlines.now.scale }
+    {
         let scale = &self.outlines.scale;
         Transform::IDENTITY.scaled(
             inverse_root(scale.x, scale.units_per_em),
@@ -231,31 +249,25 @@ impl<'p> Painter<'p> {
     }
 
     /// A transform after that of a paint; `None` where the paint has none, or is cut short.
-    fn transform(self, paint: &'p [u8], to: &Transform) -> Option<Transform> {
+    #[tactic(auto, unfolding(crate::specs::Paints::transform_of))]
+    fn transform(self, paint: &'p [u8], to: &Transform) -> Option<Transform>
+        ensures { result ≡ transform_of self.entry.colr.now.table.now self.entry.coordinates.now paint.now to.now }
+    {
         let format = u8_at(paint, 0)?;
         if format / 2 == 6 {
             u24_at(paint, 4)?;
             return Some(to.after(&self.matrix(behind(paint, 4), format == 13)));
         }
         let values = self.values(paint, format)?;
-        let center = match format / 2 {
-            9 | 15 => (values.distance(2), values.distance(3)),
-            11 | 13 => (values.distance(1), values.distance(2)),
-            _ => (0.0, 0.0),
-        };
-        let to = to.translated(center.0, center.1);
-        let to = match format / 2 {
-            7 => to.translated(values.distance(0), values.distance(1)),
-            8 | 9 => to.scaled(values.ratio(0), values.ratio(1)),
-            10 | 11 => to.scaled(values.ratio(0), values.ratio(0)),
-            12 | 13 => to.rotated(values.ratio(0)),
-            _ => to.skewed(values.ratio(0), values.ratio(1)),
-        };
-        Some(to.translated(-center.0, -center.1))
+        let (x, y) = center_of(&values, format);
+        let to = turned_by(&to.translated(x, y), &values, format);
+        Some(to.translated(-x, -y))
     }
 
     /// The transform of a matrix.
-    fn matrix(self, matrix: &'p [u8], varies: bool) -> Transform {
+    fn matrix(self, matrix: &'p [u8], varies: bool) -> Transform
+        ensures { result ≡ matrix_of (matrix_numbers self.entry.colr.now.table.now self.entry.coordinates.now matrix.now varies) }
+    {
         let first = if varies {
             u32_at(matrix, 24).unwrap_or(0)
         } else {
@@ -273,15 +285,16 @@ impl<'p> Painter<'p> {
     }
 
     /// The numbers of a paint that moves, scales, turns or slants; `None` where it is none, or is cut short.
-    fn values(self, paint: &'p [u8], format: u8) -> Option<PaintValues<'p>> {
-        let count = match format / 2 {
-            7 | 8 | 14 => 2,
-            9 | 15 => 4,
-            10 | 12 => 1,
-            11 | 13 => 3,
-            _ => return None,
-        };
-        let end = 4 + 2 * count;
+    fn values(self, paint: &'p [u8], format: u8) -> Option<PaintValues<'p>>
+        ensures first { option_map (λ values. values.first) result ≡ first_set paint.now format }
+        ensures numbers { IfSome result (λ values. numbers_of values ≡ record {
+          colr = self.entry.colr.now.table.now;
+          coordinates = self.entry.coordinates.now;
+          bytes = paint.now;
+          first = values.first;
+        }) }
+    {
+        let end = 4 + 2 * value_count(format)?;
         let first = if format % 2 == 1 {
             u32_at(paint, end)?
         } else if paint.len() < end {
@@ -293,7 +306,9 @@ impl<'p> Painter<'p> {
     }
 
     /// The numbers of a paint or of a matrix, of which the first has this delta set.
-    fn numbers(self, paint: &'p [u8], first: u32) -> PaintValues<'p> {
+    fn numbers(self, paint: &'p [u8], first: u32) -> PaintValues<'p>
+        ensures { result ≡ record { colr = self.entry.colr; coordinates = self.entry.coordinates; paint = paint.entry; first = first } }
+    {
         PaintValues {
             colr: self.colr,
             coordinates: self.coordinates,
@@ -303,8 +318,51 @@ impl<'p> Painter<'p> {
     }
 }
 
+/// The center of a paint that scales, turns or slants around one, and else the origin.
+#[tactic(auto, using(font_variations::proofs::FloatLemmas::literals))]
+fn center_of(values: &PaintValues<'_>, format: u8) -> (f32, f32)
+    ensures x { result.0 ≡ center_x format (numbers_of values.now) }
+    ensures y { result.1 ≡ center_y format (numbers_of values.now) }
+{
+    match format / 2 {
+        9 | 15 => (values.distance(2), values.distance(3)),
+        11 | 13 => (values.distance(1), values.distance(2)),
+        _ => (0.0, 0.0),
+    }
+}
+
+/// A transform after what a paint does.
+#[tactic(auto, unfolding(crate::specs::Paints::turned_by))]
+fn turned_by(to: &Transform, values: &PaintValues<'_>, format: u8) -> Transform
+    ensures { result ≡ turned_by format (numbers_of values.now) to.now }
+{
+    match format / 2 {
+        7 => to.translated(values.distance(0), values.distance(1)),
+        8 | 9 => to.scaled(values.ratio(0), values.ratio(1)),
+        10 | 11 => to.scaled(values.ratio(0), values.ratio(0)),
+        12 | 13 => to.rotated(values.ratio(0)),
+        _ => to.skewed(values.ratio(0), values.ratio(1)),
+    }
+}
+
+/// How many numbers a paint of a format has; `None` where it neither moves, scales, turns nor slants.
+fn value_count(format: u8) -> Option<usize>
+    ensures is { result ≡ value_count format }
+    ensures low { IfSome result (λ count. count ≤ 4) }
+{
+    match format / 2 {
+        7 | 8 | 14 => Some(2),
+        9 | 15 => Some(4),
+        10 | 12 => Some(1),
+        11 | 13 => Some(3),
+        _ => None,
+    }
+}
+
 /// The paint or the matrix that an offset of a paint leads to; an empty one where it leads nowhere.
-fn behind(paint: &[u8], at: usize) -> &[u8] {
+fn behind(paint: &[u8], at: usize) -> &[u8]
+    ensures { result.now ≡ behind paint.now at }
+{
     match u24_at(paint, at) {
         Some(0) | None => &[],
         Some(offset) => tail(paint, offset as usize),
@@ -312,7 +370,9 @@ fn behind(paint: &[u8], at: usize) -> &[u8] {
 }
 
 /// The bounds of what is painted so far, and of a paint that fills all that is not cut off.
-fn filled(paint: &[u8], canvas: &Canvas, group: Bounds) -> Bounds {
+fn filled(paint: &[u8], canvas: &Canvas, group: Bounds) -> Bounds
+    ensures { result ≡ filled paint.now canvas.now group }
+{
     let size = match u8_at(paint, 0) {
         Some(2) => 5,
         Some(3) => 9,
@@ -328,7 +388,10 @@ fn filled(paint: &[u8], canvas: &Canvas, group: Bounds) -> Bounds {
 }
 
 /// How many font units are as long as one of the size.
-fn inverse_root(size: i32, units_per_em: u16) -> f32 {
+#[tactic(auto, using(font_variations::proofs::FloatLemmas::literals))]
+fn inverse_root(size: i32, units_per_em: u16) -> f32
+    ensures { result ≡ inverse_root size units_per_em }
+{
     if size == 0 {
         1.0
     } else {
@@ -337,7 +400,10 @@ fn inverse_root(size: i32, units_per_em: u16) -> f32 {
 }
 
 /// The sides of a box of a glyph.
-pub(crate) fn extents_of(found: GlyphExtents) -> Extents {
+#[tactic(auto, using(font_variations::proofs::FloatLemmas::literals))]
+pub(crate) fn extents_of(found: GlyphExtents) -> Extents
+    ensures { result ≡ extents_of found }
+{
     let right = found.x_bearing.saturating_add(found.width);
     let low = found.y_bearing.saturating_add(found.height);
     Extents {

@@ -23,7 +23,7 @@ pub(crate) struct Transform {
 }
 
 impl Transform {
-    ghost use Rattle.font_colors.specs.Transform.{after, point, transformed};
+    ghost use Rattle.font_colors.specs.Transform.{after, point, rotated, scaled, skewed, transformed, translated};
 
     /// The transform that leaves all as it is.
     pub(crate) const IDENTITY: Transform = Transform {
@@ -36,6 +36,7 @@ impl Transform {
     };
 
     /// This transform after another one.
+    #[tactic(auto, unfolding(crate::specs::Transform::after))]
     pub(crate) fn after(&self, other: &Transform) -> Transform
         ensures { result ≡ after self.now other.now }
     {
@@ -50,7 +51,10 @@ impl Transform {
     }
 
     /// This transform after a scaling.
-    pub(crate) fn scaled(&self, x: f32, y: f32) -> Transform {
+    #[tactic(auto, using(font_variations::proofs::FloatLemmas::literals), unfolding(crate::specs::Transform::scaled))]
+    pub(crate) fn scaled(&self, x: f32, y: f32) -> Transform
+        ensures { result ≡ scaled self.now x y }
+    {
         if x == 1.0 && y == 1.0 {
             return *self;
         }
@@ -62,7 +66,10 @@ impl Transform {
     }
 
     /// This transform after a move.
-    pub(crate) fn translated(&self, x: f32, y: f32) -> Transform {
+    #[tactic(auto, using(font_variations::proofs::FloatLemmas::literals), unfolding(crate::specs::Transform::translated))]
+    pub(crate) fn translated(&self, x: f32, y: f32) -> Transform
+        ensures { result ≡ translated self.now x y }
+    {
         if x == 0.0 && y == 0.0 {
             return *self;
         }
@@ -74,7 +81,10 @@ impl Transform {
     }
 
     /// This transform after a turn to the left by so many halves of a circle.
-    pub(crate) fn rotated(&self, angle: f32) -> Transform {
+    #[tactic(auto, using(font_variations::proofs::FloatLemmas::literals), unfolding(crate::specs::Transform::rotated))]
+    pub(crate) fn rotated(&self, angle: f32) -> Transform
+        ensures { result ≡ rotated self.now angle }
+    {
         if angle == 0.0 {
             return *self;
         }
@@ -89,7 +99,10 @@ impl Transform {
     }
 
     /// This transform after what slants the two axes, each by so many halves of a circle.
-    pub(crate) fn skewed(&self, x: f32, y: f32) -> Transform {
+    #[tactic(auto, using(font_variations::proofs::FloatLemmas::literals), unfolding(crate::specs::Transform::skewed))]
+    pub(crate) fn skewed(&self, x: f32, y: f32) -> Transform
+        ensures { result ≡ skewed self.now x y }
+    {
         if x == 0.0 && y == 0.0 {
             return *self;
         }

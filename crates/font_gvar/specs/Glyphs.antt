@@ -1,6 +1,6 @@
 -- Where the variations of a glyph lie in a table `gvar`, and how many points an outline has.
-use Rattle.std.specs.Prelude.{ℕ, List, [], Option, None, Bool, ◌+◌, ◌-◌, ◌*◌, ◌/◌, ◌%◌, ◌&&◌, ◌||◌, nat_eq, nat_lt, nat_le, length, take, drop, unwrap_or, option_map, if◌then◌else◌}
-use Rattle.font_tables.specs.Bytes.{number_16, number_32, is_number}
+use Rattle.std.specs.Prelude.{ℕ, ℤ, pos, ◌-ℤ◌, List, [], Option, Some, None, Bool, ◌+◌, ◌-◌, ◌*◌, ◌/◌, ◌%◌, ◌&&◌, ◌||◌, nat_eq, nat_lt, nat_le, not, bit_and, length, take, drop, unwrap_or, option_map, option_and_then, if◌then◌else◌}
+use Rattle.font_tables.specs.Bytes.{byte_at, number_16, number_32, signed_16, is_number}
 use Rattle.font_gvar.specs.declared.gvar.GlyphVariations.{GlyphVariations}
 
 -- whether offsets have 32 bits, by the lowest flag
@@ -44,3 +44,33 @@ unfoldable pub point_count : List ℕ → ℕ → Option ℕ
 point_count outline contours =
     if nat_eq contours 0 || nat_lt (length outline) (12 + 2 * contours) then None
     else option_map (λ last. last + 1) (number_16 outline (8 + 2 * contours))
+
+-- how far a coordinate is from the one before: a short one is a byte, whose sign is beside it, and else it is the same one, or two bytes
+-- say it; and how many bytes say it
+abbrev pub step : List ℕ → Bool → Bool → Option ℤ
+step bytes is_short is_same =
+    if is_short then option_map (λ size. if is_same then pos size else pos 0 -ℤ pos size) (byte_at bytes 0)
+    else if is_same then Some (pos 0) else signed_16 bytes 0
+
+abbrev pub step_size : Bool → Bool → ℕ
+step_size is_short is_same = if is_short then 1 else if is_same then 0 else 2
+
+-- the flags of the next point: those before, where they are repeated, and else a byte; one that says so is repeated as often as a second
+-- byte says
+abbrev pub is_repeated : ℕ → Bool
+is_repeated flag = not (nat_eq (bit_and flag 0x08) 0)
+
+abbrev pub read_flag : List ℕ → Option ℕ
+read_flag rest =
+    option_and_then (λ flag. if is_repeated flag then option_map (λ _. flag) (byte_at rest 1) else Some flag) (byte_at rest 0)
+
+abbrev pub next_flag : List ℕ → ℕ → ℕ → Option ℕ
+next_flag rest flag repeats = if nat_lt 0 repeats then Some flag else read_flag rest
+
+abbrev pub behind_flag : List ℕ → ℕ → ℕ → List ℕ
+behind_flag rest flag repeats =
+    if nat_lt 0 repeats then rest else if is_repeated flag then drop 2 rest else drop 1 rest
+
+abbrev pub repeats_left : List ℕ → ℕ → ℕ → ℕ
+repeats_left rest flag repeats =
+    if nat_lt 0 repeats then repeats - 1 else if is_repeated flag then unwrap_or (byte_at rest 1) 0 else 0

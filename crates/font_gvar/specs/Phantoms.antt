@@ -1,13 +1,15 @@
 -- Phantom points of a glyph where nothing varies: the origin in horizontal lines, the advance from there, and the same in vertical
 -- lines (OpenType specification, "Phantom Points").
-use Rattle.std.specs.Prelude.{ℕ, ℤ, pos, List, ◌+ℤ◌, ◌-ℤ◌, unwrap_or}
+use Rattle.std.specs.Prelude.{ℕ, ℤ, pos, List, ◌+ℤ◌, ◌-ℤ◌, nat_eq, unwrap_or, if◌then◌else◌}
 use Rattle.std.specs.Option.{option_map_or}
 use Rattle.std.specs.Float.{float_zero}
 use Rattle.font_tables.specs.Bytes.{signed_16}
 use Rattle.font_tables.specs.Metrics.{advance, side_bearing}
 use Rattle.font_tables.specs.declared.metrics.Metrics.{Metrics}
 use Rattle.font_variations.specs.Regions.{float}
+use Rattle.font_gvar.specs.Points.{each_moved, moved}
 use Rattle.font_gvar.specs.declared.phantoms.Phantoms.{Phantoms}
+use Rattle.font_gvar.specs.declared.phantoms.VariedPhantoms.{VariedPhantoms}
 use Rattle.font_gvar.specs.declared.points.Point.{Point}
 use Rattle.font_gvar.specs.declared.sources.GlyphSources.{GlyphSources}
 
@@ -44,3 +46,15 @@ phantoms s glyph outline =
       top = upwards top;
       bottom = upwards (top -ℤ pos (advance s.vertical glyph));
     }
+
+-- the points, of which the one of a number is moved
+abbrev pub with_moved : Phantoms → ℕ → Point → Phantoms
+with_moved p number by =
+    if nat_eq number 0 then record p { left = moved p.left by }
+    else if nat_eq number 1 then record p { right = moved p.right by }
+    else if nat_eq number 2 then record p { top = moved p.top by }
+    else if nat_eq number 3 then record p { bottom = moved p.bottom by } else p
+
+-- the points with all that they are still to be moved by
+abbrev pub finished : VariedPhantoms → Phantoms
+finished v = if v.is_pending then each_moved v.phantoms v.deltas else v.phantoms

@@ -1,7 +1,7 @@
 //! The glyphs that an outline is put together of (OpenType specification, "glyf - Glyph Data", "Composite Glyph Description").
 
-ghost use Rattle.std.specs.Prelude.{◌≡◌, ◌≤◌, not, ◌&&◌};
-ghost use Rattle.font_gvar.specs.Components.{arguments_size, component_size, glyph_size, has_flag, matrix_size};
+ghost use Rattle.std.specs.Prelude.{◌≡◌, ◌≤◌, not, ◌&&◌, IfSome, drop, option_map};
+ghost use Rattle.font_gvar.specs.Components.{argument, arguments_size, component_anchors, component_glyph, component_matrix, component_offset, component_size, fraction, glyph_of, glyph_size, has_flag, matrix_at, matrix_size, next_flags, offset, put, signed_argument, stretching};
 
 use crate::flags::has_flag;
 use crate::glyf::HEADER_SIZE;
@@ -83,7 +83,10 @@ impl Component {
 
 impl Matrix {
     /// A matrix that does not turn, but stretches so much to the right and so much upwards.
-    fn stretching(xx: f32, yy: f32) -> Self {
+    #[tactic(auto, using(font_variations::proofs::FloatLemmas::literals))]
+    fn stretching(xx: f32, yy: f32) -> Self
+        ensures { result ≡ stretching xx yy }
+    {
         Matrix {
             xx,
             yx: 0.0,
@@ -93,7 +96,9 @@ impl Matrix {
     }
 
     /// Where it puts a point.
-    pub(crate) fn put(&self, point: Point) -> Point {
+    pub(crate) fn put(&self, point: Point) -> Point
+        ensures { result ≡ put self.now point }
+    {
         Point {
             x: point.x * self.xx + point.y * self.xy,
             y: point.x * self.yx + point.y * self.yy,
@@ -123,7 +128,11 @@ impl<'a> Components<'a> {
     }
 
     /// The next component; `None` where there is none, or it is cut short.
-    pub(crate) fn next(&mut self) -> Option<Component> {
+    pub(crate) fn next(&mut self) -> Option<Component>
+        ensures flags { option_map (λ component. component.flags) result ≡ next_flags self.old.has_more self.old.rest.now }
+        ensures more { IfSome result (λ component. self.new.has_more ≡ has_flag component.flags 0x0020) }
+        ensures rest { IfSome result (λ component. self.new.rest.now ≡ drop (component_size component.flags) self.old.rest.now) }
+    {
         if !self.has_more {
             return None;
         }
@@ -183,7 +192,14 @@ fn matrix_size(flags: u16) -> usize
 }
 
 /// The component at the front of these bytes.
-fn component_at(bytes: &[u8], flags: u16) -> Component {
+#[tactic(auto, using(font_variations::proofs::FloatLemmas::literals))]
+fn component_at(bytes: &[u8], flags: u16) -> Component
+    ensures glyph { option_map (λ glyph. glyph.0) result.glyph ≡ component_glyph bytes.now flags }
+    ensures flags { result.flags ≡ flags }
+    ensures offset { result.offset ≡ component_offset bytes.now flags }
+    ensures anchors { result.anchors ≡ component_anchors bytes.now flags }
+    ensures matrix { result.matrix ≡ component_matrix bytes.now flags }
+{
     let number = if has_flag(flags, IS_24_BITS) {
         u24_at(bytes, 2)
     } else {
@@ -202,14 +218,16 @@ fn component_at(bytes: &[u8], flags: u16) -> Component {
         anchors: if are_offsets {
             None
         } else {
-            Some(anchors(arguments, flags))
+            Some((argument(arguments, flags, 0), argument(arguments, flags, 1)))
         },
         matrix: matrix_at(tail(arguments, arguments_size(flags)), flags),
     }
 }
 
 /// The glyph of a number.
-fn glyph_of(number: u32) -> Option<GlyphId> {
+fn glyph_of(number: u32) -> Option<GlyphId>
+    ensures { option_map (λ glyph. glyph.0) result ≡ glyph_of number }
+{
     if number < 65536 {
         Some(GlyphId(number as u16))
     } else {
@@ -218,41 +236,47 @@ fn glyph_of(number: u32) -> Option<GlyphId> {
 }
 
 /// How far a component is moved.
-fn offset(arguments: &[u8], flags: u16) -> Point {
-    let (x, y) = if has_flag(flags, ARGUMENTS_ARE_WORDS) {
-        (
-            i32::from(i16_at(arguments, 0).unwrap_or(0)),
-            i32::from(i16_at(arguments, 2).unwrap_or(0)),
-        )
-    } else {
-        (
-            i32::from(u8_at(arguments, 0).unwrap_or(0).cast_signed()),
-            i32::from(u8_at(arguments, 1).unwrap_or(0).cast_signed()),
-        )
-    };
+#[tactic(auto, using(font_variations::proofs::FloatLemmas::literals), unfolding(crate::specs::Components::offset))]
+fn offset(arguments: &[u8], flags: u16) -> Point
+    ensures { result ≡ offset arguments.now flags }
+{
     Point {
-        x: float(x),
-        y: float(y),
+        x: float(signed_argument(arguments, flags, 0)),
+        y: float(signed_argument(arguments, flags, 1)),
     }
 }
 
-/// The points that meet.
-fn anchors(arguments: &[u8], flags: u16) -> (u32, u32) {
+/// The first or the second argument, as a signed number.
+#[tactic(auto, unfolding(crate::specs::Components::signed_argument))]
+fn signed_argument(arguments: &[u8], flags: u16, place: u8) -> i32
+    ensures { result ≡ signed_argument arguments.now flags place }
+{
+    let place = usize::from(place);
     if has_flag(flags, ARGUMENTS_ARE_WORDS) {
-        (
-            u32::from(u16_at(arguments, 0).unwrap_or(0)),
-            u32::from(u16_at(arguments, 2).unwrap_or(0)),
-        )
+        i32::from(i16_at(arguments, 2 * place).unwrap_or(0))
     } else {
-        (
-            u32::from(u8_at(arguments, 0).unwrap_or(0)),
-            u32::from(u8_at(arguments, 1).unwrap_or(0)),
-        )
+        i32::from(u8_at(arguments, place).unwrap_or(0).cast_signed())
+    }
+}
+
+/// The first or the second argument, as the number of a point.
+#[tactic(auto, unfolding(crate::specs::Components::argument))]
+fn argument(arguments: &[u8], flags: u16, place: u8) -> u32
+    ensures { result ≡ argument arguments.now flags place }
+{
+    let place = usize::from(place);
+    if has_flag(flags, ARGUMENTS_ARE_WORDS) {
+        u32::from(u16_at(arguments, 2 * place).unwrap_or(0))
+    } else {
+        u32::from(u8_at(arguments, place).unwrap_or(0))
     }
 }
 
 /// How a component is turned and stretched.
-fn matrix_at(numbers: &[u8], flags: u16) -> Matrix {
+#[tactic(auto, using(font_variations::proofs::FloatLemmas::literals), unfolding(crate::specs::Components::matrix_at))]
+fn matrix_at(numbers: &[u8], flags: u16) -> Matrix
+    ensures { result ≡ matrix_at numbers.now flags }
+{
     if has_flag(flags, HAS_SCALE) {
         let scale = fraction(numbers, 0);
         Matrix::stretching(scale, scale)
@@ -271,6 +295,9 @@ fn matrix_at(numbers: &[u8], flags: u16) -> Matrix {
 }
 
 /// The number of 16384ths at a place.
-fn fraction(numbers: &[u8], at: usize) -> f32 {
+#[tactic(auto, using(font_variations::proofs::FloatLemmas::powers), unfolding(crate::specs::Components::fraction))]
+fn fraction(numbers: &[u8], at: usize) -> f32
+    ensures { result ≡ fraction numbers.now at }
+{
     float(i32::from(i16_at(numbers, at).unwrap_or(0))) / 16384.0
 }

@@ -1,7 +1,8 @@
 //! Deltas of points of which a font says none, inferred from those of their contour of which it does (OpenType specification, "gvar -
 //! Glyph Variations Table", "Inferred deltas for un-referenced point numbers").
 
-ghost use Rattle.std.specs.Prelude.{◌<◌, IfSome, length};
+ghost use Rattle.std.specs.Prelude.{◌≡◌, ◌<◌, IfSome, length};
+ghost use Rattle.font_gvar.specs.Points.{inferred};
 
 use crate::points::{Delta, OutlinePoint, Point};
 
@@ -102,7 +103,10 @@ impl Ends {
 }
 
 /// The delta of a coordinate, from two others with their deltas: evenly between them, and outside that of the nearer one.
-fn inferred(target: f32, before: (f32, f32), behind: (f32, f32)) -> f32 {
+#[tactic(auto, using(font_variations::proofs::FloatLemmas::literals))]
+fn inferred(target: f32, before: (f32, f32), behind: (f32, f32)) -> f32
+    ensures { result ≡ inferred target before.0 before.1 behind.0 behind.1 }
+{
     let (low, high) = if before.0 < behind.0 {
         (before, behind)
     } else {

@@ -1,5 +1,9 @@
 //! The bounds of glyphs at a place in the variations of a font.
 
+ghost use Rattle.std.specs.Prelude.{◌≡◌, ◌-◌, length, take};
+ghost use Rattle.font_gvar.specs.Points.{all_moved, bounds_of, including, to_origin, whole_box};
+
+use crate::glyf::NO_BOX;
 use crate::outlines::last_phantoms;
 use crate::phantoms::{DEEPEST_GLYPH, MOST_GLYPHS, Phantoms};
 use crate::points::{OutlinePoint, Point};
@@ -38,20 +42,22 @@ pub fn varied_outline(
     if !source.push_glyph(glyph, DEEPEST_GLYPH, &mut steps, &mut points)? {
         return Ok(None);
     }
-    Ok(Some(outline_of(points.as_slice())))
+    let all = points.as_slice();
+    Ok(Some(outline_of(all, &last_phantoms(all))))
 }
 
-/// The outline of these points, of which the last four are phantom points.
-fn outline_of(points: &[OutlinePoint]) -> VariedOutline {
-    let phantoms = last_phantoms(points);
+/// The outline of these points, of which the last four are its phantom points.
+#[tactic(auto, using(font_variations::proofs::FloatLemmas::literals))]
+fn outline_of(points: &[OutlinePoint], phantoms: &Phantoms) -> VariedOutline
+    ensures bounds { result.bounds ≡ bounds_of (to_origin phantoms.now) (take (length points.now - 4) points.now) }
+    ensures extents { result.extents ≡ whole_box result.bounds }
+    ensures phantoms { result.phantoms ≡ all_moved phantoms.now (to_origin phantoms.now) }
+{
     let by = Point {
         x: -phantoms.left.x,
         y: 0.0,
     };
-    let mut bounds = PointBounds::EMPTY;
-    for point in points.iter().take(points.len().saturating_sub(4)) {
-        bounds = bounds.including(point.at.moved(by));
-    }
+    let bounds = bounds_of(&points[..points.len().saturating_sub(4)], by);
     VariedOutline {
         extents: bounds.extents(),
         bounds,
@@ -62,6 +68,18 @@ fn outline_of(points: &[OutlinePoint]) -> VariedOutline {
             bottom: phantoms.bottom.moved(by),
         },
     }
+}
+
+/// The box around points, each moved by a distance.
+#[tactic(auto, using(crate::proofs::BoundsLemmas::bounds), unfolding(crate::specs::Points::bounds_of))]
+fn bounds_of(points: &[OutlinePoint], by: Point) -> PointBounds
+    ensures { result ≡ bounds_of by points.now }
+{
+    let mut bounds = PointBounds::EMPTY;
+    for point in points {
+        bounds = bounds.including(point.at.moved(by));
+    }
+    bounds
 }
 
 /// The box around points: one without points ends before it begins.
@@ -87,7 +105,9 @@ impl PointBounds {
     };
 
     /// The least box around this one and a point.
-    fn including(self, point: Point) -> PointBounds {
+    fn including(self, point: Point) -> PointBounds
+        ensures { result ≡ including self point }
+    {
         PointBounds {
             min: Point {
                 x: lesser(self.min.x, point.x),
@@ -101,9 +121,12 @@ impl PointBounds {
     }
 
     /// The box in whole font units: its left side and its top are rounded, and so is how far it is from there to the other sides.
-    fn extents(self) -> GlyphExtents {
+    #[tactic(auto, using(font_variations::proofs::FloatLemmas::literals))]
+    fn extents(self) -> GlyphExtents
+        ensures { result ≡ whole_box self }
+    {
         if self.min.x >= self.max.x || self.min.y >= self.max.y {
-            return GlyphExtents::default();
+            return NO_BOX;
         }
         let x_bearing = rounded(self.min.x);
         let y_bearing = rounded(self.max.y);

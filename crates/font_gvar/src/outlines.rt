@@ -1,6 +1,7 @@
 //! All points of a glyph at a place in the variations of a font, those of its components too.
 
-ghost use Rattle.std.specs.Prelude.{◌≤◌};
+ghost use Rattle.std.specs.Prelude.{◌≡◌, ◌≤◌, length};
+ghost use Rattle.font_gvar.specs.Points.{last_phantoms};
 
 use crate::components::{Component, Components};
 use crate::glyf::{OutlineKind, outline_kind};
@@ -144,15 +145,18 @@ fn push_phantoms(points: &mut Vec<OutlinePoint>, phantoms: &Phantoms) -> Result<
 }
 
 /// The last four points, which are phantom points.
-pub(crate) fn last_phantoms(points: &[OutlinePoint]) -> Phantoms {
-    match points {
-        [.., left, right, top, bottom] => Phantoms {
-            left: left.at,
-            right: right.at,
-            top: top.at,
-            bottom: bottom.at,
-        },
-        _ => Phantoms::default(),
+pub(crate) fn last_phantoms(points: &[OutlinePoint]) -> Phantoms
+    ensures { 4 ≤ length points.now → result ≡ last_phantoms points.now }
+{
+    let len = points.len();
+    if len < 4 {
+        return Phantoms::default();
+    }
+    Phantoms {
+        left: points[len - 4].at,
+        right: points[len - 3].at,
+        top: points[len - 2].at,
+        bottom: points[len - 1].at,
     }
 }
 

@@ -1,8 +1,9 @@
 //! Phantom points of glyphs: where their origins and advances stand (OpenType specification, "glyf - Glyph Data", "Phantom
 //! Points").
 
-ghost use Rattle.std.specs.Prelude.{◌≡◌, ◌<◌, ◌≤◌, [], false, IfSome, IsSome};
-ghost use Rattle.font_gvar.specs.Phantoms.{phantoms};
+ghost use Rattle.std.specs.Prelude.{◌≡◌, ◌<◌, ◌≤◌, [], false, true, IfNone, IfSome, IsSome, if◌then◌else◌};
+ghost use Rattle.font_gvar.specs.Phantoms.{finished, phantoms, with_moved};
+ghost use Rattle.font_gvar.specs.Points.{each_moved};
 ghost use Rattle.font_gvar.specs.Glyphs.{data_of};
 
 use crate::components::Components;
@@ -30,7 +31,9 @@ pub struct Phantoms {
 
 impl Phantoms {
     /// Moves the point with this number, from 0 on; there are four.
-    fn move_point(&mut self, number: u32, by: Point) {
+    fn move_point(&mut self, number: u32, by: Point)
+        ensures { self.new ≡ with_moved self.old number by }
+    {
         match number {
             0 => self.left = self.left.moved(by),
             1 => self.right = self.right.moved(by),
@@ -41,7 +44,9 @@ impl Phantoms {
     }
 
     /// The points, each moved by one of others.
-    fn moved(&self, by: &Phantoms) -> Phantoms {
+    fn moved(&self, by: &Phantoms) -> Phantoms
+        ensures { result ≡ each_moved self.now by.now }
+    {
         Phantoms {
             left: self.left.moved(by.left),
             right: self.right.moved(by.right),
@@ -143,7 +148,7 @@ struct VariedPhantoms {
 impl VariedPhantoms {
     /// The points, with all that they are still to be moved by.
     fn finished(&self) -> Phantoms
-        ensures { self.now.is_pending ≡ false → result ≡ self.now.phantoms }
+        ensures { result ≡ finished self.now }
     {
         if self.is_pending {
             self.phantoms.moved(&self.deltas)
@@ -153,15 +158,30 @@ impl VariedPhantoms {
     }
 
     /// Moves the points by all that they are still to be moved by.
-    fn settle(&mut self) {
+    fn settle(&mut self)
+        ensures phantoms { self.new.phantoms ≡ finished self.old }
+        ensures pending { self.new.is_pending ≡ false }
+    {
         self.phantoms = self.finished();
         self.deltas = Phantoms::default();
         self.is_pending = false;
     }
 
     /// Adds a tuple's deltas of phantom points, which stand behind so many points.
-    fn add(&mut self, tuple: &Tuple<'_>, scalar: f32, count: u32) -> Option<()> {
-        let mut deltas = TupleDeltas::new(tuple, count.saturating_add(4), count)?;
+    fn add(&mut self, tuple: &Tuple<'_>, scalar: f32, count: u32) -> Option<()>
+        ensures added { IsSome result → self.new.is_pending ≡ true }
+        ensures refused { IfNone result (self.new ≡ self.old) }
+    {
+        let deltas = TupleDeltas::new(tuple, count.saturating_add(4), count)?;
+        self.add_deltas(deltas, scalar, count);
+        Some(())
+    }
+
+    /// Adds deltas of points, where they are not for all points on those that are moved by all before.
+    fn add_deltas(&mut self, mut deltas: TupleDeltas<'_>, scalar: f32, count: u32)
+        ensures phantoms { self.new.phantoms ≡ (if deltas.entry.is_for_all then self.old.phantoms else finished self.old) }
+        ensures pending { self.new.is_pending ≡ true }
+    {
         if !deltas.is_for_all {
             self.settle();
         }
@@ -173,7 +193,6 @@ impl VariedPhantoms {
             }
         }
         self.is_pending = true;
-        Some(())
     }
 }
 

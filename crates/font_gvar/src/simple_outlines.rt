@@ -1,8 +1,8 @@
 //! The points of outlines that are not put together of others (OpenType specification, "glyf - Glyph Data", "Simple Glyph
 //! Description").
 
-ghost use Rattle.std.specs.Prelude.{◌≡◌};
-ghost use Rattle.font_gvar.specs.Glyphs.{point_count};
+ghost use Rattle.std.specs.Prelude.{◌≡◌, IfSome, option_map};
+ghost use Rattle.font_gvar.specs.Glyphs.{behind_flag, next_flag, point_count, repeats_left, step, step_size};
 
 use crate::glyf::HEADER_SIZE;
 use crate::points::{OutlinePoint, Point};
@@ -76,7 +76,11 @@ struct FlagReader<'a> {
 
 impl FlagReader<'_> {
     /// The flags of the next point.
-    fn next(&mut self) -> Option<u8> {
+    fn next(&mut self) -> Option<u8>
+        ensures flag { result ≡ next_flag self.old.rest.now self.old.flag self.old.repeats }
+        ensures rest { IfSome result (λ flag. self.new.rest.now ≡ behind_flag self.old.rest.now flag self.old.repeats) }
+        ensures left { IfSome result (λ flag. self.new.repeats ≡ repeats_left self.old.rest.now flag self.old.repeats) }
+    {
         if self.repeats > 0 {
             self.repeats -= 1;
             return Some(self.flag);
@@ -167,7 +171,11 @@ fn behind_coordinates<'a>(
 }
 
 /// How far a coordinate is from the one before, and how many bytes say it; `None` where these are not there.
-fn step(bytes: &[u8], is_short: bool, is_same: bool) -> Option<(i32, usize)> {
+#[tactic(auto, using(font_variations::proofs::FloatLemmas::literals))]
+fn step(bytes: &[u8], is_short: bool, is_same: bool) -> Option<(i32, usize)>
+    ensures far { option_map (λ found. found.0) result ≡ step bytes.now is_short is_same }
+    ensures size { IfSome result (λ found. found.1 ≡ step_size is_short is_same) }
+{
     if is_short {
         let size = i32::from(u8_at(bytes, 0)?);
         Some((if is_same { size } else { -size }, 1))

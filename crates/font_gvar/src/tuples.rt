@@ -1,8 +1,10 @@
 //! The tuples of a glyph's variations: each a part of the space of variations, with deltas of points (OpenType specification,
 //! "OpenType Font Variations Common Table Formats", "Tuple variation store").
 
-ghost use Rattle.std.specs.Prelude.{◌≡◌, ◌+◌, ◌≤◌, IfSome, None, option_map};
-ghost use Rattle.font_gvar.specs.Tuples.{own_size};
+ghost use Rattle.std.specs.Prelude.{◌≡◌, ◌+◌, ◌%◌, ◌≤◌, IfSome, Some, drop, option_map, take};
+ghost use Rattle.std.specs.Option.{option_copied};
+ghost use Rattle.font_tables.specs.Bytes.{number_16};
+ghost use Rattle.font_gvar.specs.Tuples.{data_size, data_within, next_flags, own_size};
 
 use crate::flags::has_flag;
 use crate::gvar::GlyphVariations;
@@ -70,7 +72,11 @@ const OWN_POINTS: u16 = 0x2000;
 
 impl<'a> Tuples<'a> {
     /// The tuples of a glyph's variations; `None` where there are none, or the points that they share are broken.
-    pub(crate) fn new(variations: &GlyphVariations<'a>, bytes: &'a [u8]) -> Option<Self> {
+    pub(crate) fn new(variations: &GlyphVariations<'a>, bytes: &'a [u8]) -> Option<Self>
+        ensures axes { IfSome result (λ tuples. tuples.axis_count ≡ variations.now.axis_count) }
+        ensures left { IfSome result (λ tuples. Some tuples.left ≡ option_map (λ count. count % 0x1000) (number_16 bytes.now 0)) }
+        ensures headers { IfSome result (λ tuples. tuples.headers.now ≡ drop 4 bytes.now) }
+    {
         let count = u16_at(bytes, 0)?;
         let data = tail(bytes, usize::from(u16_at(bytes, 2)?));
         let (shared_points, data) = if count >= 0x8000 {
@@ -90,8 +96,12 @@ impl<'a> Tuples<'a> {
 
     /// The next tuple; `None` where there is none, or its header does not lie in the variations.
     pub(crate) fn next(&mut self) -> Option<Tuple<'a>>
-        ensures none { self.old.left ≡ 0 → option_map (λ t. t.flags) result ≡ None }
+        ensures flags { option_map (λ tuple. tuple.flags) result ≡ next_flags self.old.left self.old.axis_count self.old.headers.now }
+        ensures own { IfSome result (λ tuple. tuple.coordinates.now ≡ take (own_size self.old.axis_count tuple.flags) (drop 4 self.old.headers.now)) }
+        ensures deltas { IfSome result (λ tuple. option_copied tuple.«data» ≡ data_within self.old.«data».now (data_size self.old.headers.now)) }
         ensures taken { IfSome result (λ _. self.new.left + 1 ≡ self.old.left) }
+        ensures behind { IfSome result (λ tuple. self.new.headers.now ≡ drop (4 + own_size self.old.axis_count tuple.flags) self.old.headers.now) }
+        ensures rest { IfSome result (λ _. self.new.«data».now ≡ drop (data_size self.old.headers.now) self.old.«data».now) }
     {
         if self.left == 0 {
             return None;
