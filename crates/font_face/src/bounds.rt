@@ -1,5 +1,10 @@
 //! The bounds of glyphs at the size at which a font is used, and at the place that is chosen in its variations.
 
+ghost use Rattle.std.specs.Prelude.{◌≡◌, [], Ok, Some, IfSome};
+ghost use Rattle.font_tables.specs.Metrics.{side_bearing};
+ghost use Rattle.font_gvar.specs.Glyf.{glyf_extents};
+ghost use Rattle.font_face.specs.Measures.{color_bounds};
+
 use crate::color::ColorTables;
 use crate::face::Face;
 use crate::measures::scaled_bounds;
@@ -33,7 +38,15 @@ pub(crate) struct BoundsSource<'a> {
 
 impl<'a> BoundsSource<'a> {
     /// What the bounds of a font's glyphs are found from.
-    pub(crate) fn new(face: &Face<'a>) -> Self {
+    pub(crate) fn new(face: &Face<'a>) -> Self
+        ensures color { result.color ≡ face.now.color }
+        ensures outlines { result.outlines ≡ face.now.outlines }
+        ensures outlines_2 { result.outlines_2 ≡ face.now.variations.outlines_2 }
+        ensures variations { result.variations ≡ face.now.variations.glyphs }
+        ensures horizontal { result.horizontal ≡ face.now.horizontal }
+        ensures vertical { result.vertical ≡ face.now.vertical }
+        ensures scale { result.scale ≡ face.now.scale }
+    {
         BoundsSource {
             color: face.color,
             outlines: face.outlines,
@@ -46,7 +59,12 @@ impl<'a> BoundsSource<'a> {
     }
 
     /// The tables of outlines and their variations.
-    pub(crate) fn glyph_sources(&self) -> GlyphSources<'a> {
+    pub(crate) fn glyph_sources(&self) -> GlyphSources<'a>
+        ensures outlines { result.outlines ≡ self.now.outlines.glyf }
+        ensures variations { result.variations ≡ self.now.variations }
+        ensures horizontal { result.horizontal ≡ self.now.horizontal }
+        ensures vertical { result.vertical ≡ self.now.vertical }
+    {
         GlyphSources {
             outlines: self.outlines.glyf,
             variations: self.variations,
@@ -56,7 +74,12 @@ impl<'a> BoundsSource<'a> {
     }
 
     /// The outlines as they are drawn.
-    fn drawn(&self) -> DrawnOutlines<'a> {
+    fn drawn(&self) -> DrawnOutlines<'a>
+        ensures glyf { result.sources.outlines ≡ self.now.outlines.glyf }
+        ensures cff_2 { result.cff_2 ≡ self.now.outlines_2 }
+        ensures cff { result.cff ≡ self.now.outlines.cff }
+        ensures scale { result.scale ≡ self.now.scale }
+    {
         DrawnOutlines {
             sources: self.glyph_sources(),
             cff_2: self.outlines_2,
@@ -72,7 +95,9 @@ impl<'a> BoundsSource<'a> {
         alloc: Global,
         glyph: GlyphId,
         coordinates: &[i32],
-    ) -> Result<Option<GlyphExtents>, AllocError> {
+    ) -> Result<Option<GlyphExtents>, AllocError>
+        ensures { IfSome (color_bounds self.now.color glyph.0 coordinates.now self.now.scale) (λ bounds. result ≡ Ok (Some bounds)) }
+    {
         if let Some(found) = self.color.bounds(glyph, coordinates, &self.scale) {
             return Ok(Some(found));
         }
@@ -108,7 +133,10 @@ impl<'a> BoundsSource<'a> {
         alloc: Global,
         glyph: GlyphId,
         coordinates: &[i32],
-    ) -> Result<Option<GlyphExtents>, AllocError> {
+    ) -> Result<Option<GlyphExtents>, AllocError>
+        ensures { coordinates.now ≡ [] → let glyf = self.now.outlines.glyf in
+            result ≡ Ok (glyf_extents glyf.glyf.now glyf.loca.now glyf.has_long_offsets glyf.glyph_count glyph.0 (side_bearing self.now.horizontal glyph.0)) }
+    {
         if coordinates.is_empty() {
             let bearing = self.horizontal.side_bearing(glyph);
             return Ok(self.outlines.glyf.glyph_extents(glyph, bearing));

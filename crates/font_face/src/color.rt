@@ -1,7 +1,9 @@
 //! Bounds of bitmaps, and of glyphs that are drawn in colours.
 
+ghost use Rattle.std.specs.Prelude.{◌≡◌};
 ghost use Rattle.font_colors.specs.Strikes.{wanted_size};
 ghost use Rattle.font_face.specs.Face.{AreColorsOf};
+ghost use Rattle.font_face.specs.Measures.{color_bounds};
 
 use crate::directory::Directory;
 use crate::measures::scaled_bounds;
@@ -44,7 +46,9 @@ impl<'a> ColorTables<'a> {
         glyph: GlyphId,
         coordinates: &[i32],
         scale: &Scale,
-    ) -> Option<GlyphExtents> {
+    ) -> Option<GlyphExtents>
+        ensures { result ≡ color_bounds self.now glyph.0 coordinates.now scale.now }
+    {
         if let Some(found) = self.sbix.glyph_box(glyph) {
             return Some(scaled_bounds(found.in_units(scale.units_per_em), scale));
         }

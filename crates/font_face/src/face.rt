@@ -1,6 +1,6 @@
 //! A font, as far as shaping asks it.
 
-ghost use Rattle.std.specs.Prelude.{◌≡◌, ◌==◌, not, option_map, codes, IfOk, IfSome};
+ghost use Rattle.std.specs.Prelude.{◌≡◌, ◌==◌, not, option_map, is_some, codes, IfOk, IfSome};
 ghost use Rattle.rb_common.specs.Tag.{tag_of};
 ghost use Rattle.font_tables.specs.Directory.{font_of, table_of};
 ghost use Rattle.font_tables.specs.Head.{index_to_loc_format};
@@ -149,7 +149,9 @@ impl<'a> Face<'a> {
     }
 
     /// Whether the font has a glyph for a character.
-    pub fn has_glyph(&self, character: char) -> bool {
+    pub fn has_glyph(&self, character: char) -> bool
+        ensures { result ≡ is_some (glyph_index self.now.characters.subtable.now self.now.characters.encoding character) }
+    {
         self.glyph_index(character as u32).is_some()
     }
 

@@ -1,8 +1,11 @@
 //! The measures of glyphs at the size at which a font is used, as HarfBuzz's functions of a font give them. What a font
 //! says in font units is scaled as soon as it is read.
 
-ghost use Rattle.std.specs.Prelude.{◌≡◌, [], IsSome};
-ghost use Rattle.font_face.specs.Measures.{hor_advance, hor_units, short, extents_of_em};
+ghost use Rattle.std.specs.Prelude.{◌≡◌, [], Ok, Some, pos, false, int_div, IsSome, IfSome};
+ghost use Rattle.font_tables.specs.VerticalOrigins.{y_origin};
+ghost use Rattle.font_face.specs.Measures.{hor_advance, hor_units, ver_advance, ver_units, back_by_units, back_by_line, has_vertical_metrics, short, extents_of_em};
+ghost use Rattle.font_face.specs.Measures.{line_extents, line_height, varied_height, multiplier, scaled, scaled_bounds, whole_below, whole_above, scaled_start, scaled_size};
+ghost use Rattle.font_face.specs.Measures.{listed_origin, origin_by, ver_origin, distance_or, color_bounds};
 
 use crate::bounds::BoundsSource;
 use crate::face::Face;
@@ -46,7 +49,10 @@ impl Face<'_> {
 
     /// How far a glyph moves the pen down in vertical lines, in font units: by the table `vmtx`, and by the variations that
     /// are chosen.
-    fn vertical_units(&self, glyph: GlyphId) -> i32 {
+    fn vertical_units(&self, glyph: GlyphId) -> i32
+        ensures plain { self.now.variations.coordinates.items ≡ [] → result ≡ ver_units self.now glyph.0 }
+        ensures varied { IsSome self.now.variations.vertical → result ≡ ver_units self.now glyph.0 }
+    {
         let advance = i32::from(self.vertical.advance(glyph));
         if self.coordinates().is_empty() || !self.vertical.has_advance(glyph) {
             return advance;
@@ -68,34 +74,62 @@ impl Face<'_> {
 
     /// How far a glyph moves the pen up in vertical lines, which is a negative number, since these run down: by the font's
     /// vertical metrics, or else by the height of its lines.
-    pub fn glyph_ver_advance(&self, glyph: GlyphId) -> i32 {
-        if self.vertical.has_advance(GlyphId(0)) {
-            self.scale
-                .em_scale_y(short(self.vertical_units(glyph).saturating_neg()))
+    pub fn glyph_ver_advance(&self, glyph: GlyphId) -> i32
+        ensures plain { self.now.variations.coordinates.items ≡ [] → result ≡ ver_advance self.now glyph.0 }
+        ensures varied { IsSome self.now.variations.vertical → result ≡ ver_advance self.now glyph.0 }
+        ensures lines { has_vertical_metrics self.now ≡ false → result ≡ ver_advance self.now glyph.0 }
+    {
+        if self.has_vertical_metrics() {
+            self.back_by_units(glyph)
         } else {
-            line_height(self.line_extents()).wrapping_neg()
+            self.back_by_line()
         }
+    }
+
+    /// Whether the font has a table `vmtx`.
+    #[tactic(auto, unfolding(crate::specs::Measures::has_vertical_metrics))]
+    fn has_vertical_metrics(&self) -> bool
+        ensures { result ≡ has_vertical_metrics self.now }
+    {
+        self.vertical.has_advance(GlyphId(0))
+    }
+
+    /// How far a glyph moves the pen up by that table.
+    #[tactic(auto, unfolding(crate::specs::Measures::back_by_units))]
+    fn back_by_units(&self, glyph: GlyphId) -> i32
+        ensures plain { self.now.variations.coordinates.items ≡ [] → result ≡ back_by_units self.now glyph.0 }
+        ensures varied { IsSome self.now.variations.vertical → result ≡ back_by_units self.now glyph.0 }
+    {
+        let units = self.vertical_units(glyph).saturating_neg();
+        self.scale.em_scale_y(short(units))
+    }
+
+    /// How far each glyph of a font without that table moves the pen up.
+    #[tactic(auto, unfolding(crate::specs::Measures::back_by_line))]
+    fn back_by_line(&self) -> i32
+        ensures { result ≡ back_by_line self.now }
+    {
+        line_height(self.line_extents()).wrapping_neg()
     }
 
     /// Where a glyph's origin in vertical lines stands, from its origin in horizontal ones. `Err(AllocError)` where memory runs out
     /// for the points of an outline that varies.
-    pub fn vertical_origin(&self, glyph: GlyphId) -> Result<(i32, i32), AllocError> {
-        let x = self.glyph_hor_advance(glyph) / 2;
+    pub fn vertical_origin(&self, glyph: GlyphId) -> Result<(i32, i32), AllocError>
+        ensures plain { self.now.variations.coordinates.items ≡ []
+            → result ≡ Ok (int_div (hor_advance self.now glyph.0) (pos 2), ver_origin self.now glyph.0) }
+    {
+        let x = half(self.glyph_hor_advance(glyph));
         Ok((x, self.vertical_origin_y(glyph)?))
     }
 
     /// How far up a glyph's origin in vertical lines stands: by the table `VORG`, else by the top of its outline and its top
     /// side bearing, or so that the outline stands in the middle of the line, else at the font's ascender.
-    fn vertical_origin_y(&self, glyph: GlyphId) -> Result<i32, AllocError> {
+    fn vertical_origin_y(&self, glyph: GlyphId) -> Result<i32, AllocError>
+        ensures plain { self.now.variations.coordinates.items ≡ [] → result ≡ Ok (ver_origin self.now glyph.0) }
+        ensures listed { IfSome (y_origin self.now.vorg.table.now glyph.0) (λ y. result ≡ Ok (listed_origin self.now y glyph.0)) }
+    {
         if let Some(y) = self.vorg.y_origin(glyph) {
-            let delta = match &self.variations.vertical {
-                Some(table) if !self.coordinates().is_empty() => {
-                    table.origin_delta(glyph, self.coordinates())
-                }
-                _ => 0.0,
-            };
-            let multiplier = multiplier(self.scale.y, &self.scale);
-            return Ok(rounded((float(i32::from(y)) + delta) * multiplier));
+            return Ok(self.listed_origin(y, glyph));
         }
         if self.coordinates().is_empty() {
             let bearing = self.horizontal.side_bearing(glyph);
@@ -112,6 +146,20 @@ impl Face<'_> {
         }
     }
 
+    /// How far up a glyph's origin in vertical lines stands that the table `VORG` has, by its y coordinate there.
+    fn listed_origin(&self, y: i16, glyph: GlyphId) -> i32
+        ensures { result ≡ listed_origin self.now y glyph.0 }
+    {
+        let units = float(i32::from(y));
+        let units = match &self.variations.vertical {
+            Some(table) if !self.coordinates().is_empty() => {
+                units + table.origin_delta(glyph, self.coordinates())
+            }
+            _ => units,
+        };
+        rounded(units * multiplier(self.scale.y, &self.scale))
+    }
+
     /// How far a glyph's bounds begin below its origin in vertical lines, in font units, at the variations that are chosen.
     fn varied_top_bearing(&self, glyph: GlyphId, outline: &VariedOutline) -> i16 {
         if let Some(table) = &self.variations.vertical
@@ -124,7 +172,9 @@ impl Face<'_> {
     }
 
     /// How far up a glyph's origin in vertical lines stands, by its bounds and its top side bearing in font units.
-    fn origin_by(&self, outline: Option<GlyphExtents>, bearing: Option<i16>) -> i32 {
+    fn origin_by(&self, outline: Option<GlyphExtents>, bearing: Option<i16>) -> i32
+        ensures { result ≡ origin_by self.now outline bearing }
+    {
         let Some(outline) = outline else {
             return self.line_extents().ascender;
         };
@@ -144,12 +194,18 @@ impl Face<'_> {
 
     /// The bounds of a glyph; `None` where the font has no outline of it (OpenType specification, `glyf`, `gvar` and `CFF `).
     /// `Err(AllocError)` where memory runs out for the points of an outline that varies.
-    pub fn glyph_extents(&self, glyph: GlyphId) -> Result<Option<GlyphExtents>, AllocError> {
+    pub fn glyph_extents(&self, glyph: GlyphId) -> Result<Option<GlyphExtents>, AllocError>
+        ensures color { IfSome (color_bounds self.now.color glyph.0 self.now.variations.coordinates.items self.now.scale)
+            (λ bounds. result ≡ Ok (Some bounds)) }
+    {
         BoundsSource::new(self).bounds(self.alloc, glyph, self.coordinates())
     }
 
     /// How far horizontal lines reach up and down.
-    fn line_extents(&self) -> FontExtents {
+    #[tactic(auto, unfolding(crate::specs::Measures::line_extents))]
+    fn line_extents(&self) -> FontExtents
+        ensures { result ≡ line_extents self.now }
+    {
         match self.extents {
             Some(extents) => FontExtents {
                 ascender: self.varied_height(extents.ascender, Tag::from_bytes(b"hasc")),
@@ -160,14 +216,25 @@ impl Face<'_> {
     }
 
     /// A height of the whole font at its size, by the variations of the number with this tag.
-    fn varied_height(&self, units: i32, tag: Tag) -> i32 {
+    fn varied_height(&self, units: i32, tag: Tag) -> i32
+        ensures { result ≡ varied_height self.now units tag.0 }
+    {
         let delta = self.variations.values.delta(tag, self.coordinates());
         rounded((float(units) + delta) * multiplier(self.scale.y, &self.scale))
     }
 }
 
+/// Half of a number, toward 0.
+fn half(number: i32) -> i32
+    ensures { result ≡ int_div number (pos 2) }
+{
+    number / 2
+}
+
 /// How high horizontal lines are.
-fn line_height(extents: FontExtents) -> i32 {
+fn line_height(extents: FontExtents) -> i32
+    ensures { result ≡ line_height extents }
+{
     extents.ascender.wrapping_sub(extents.descender)
 }
 
@@ -184,32 +251,75 @@ fn extents_of_em(em: i32) -> FontExtents
 }
 
 /// Bounds in font units at a size: the whole units around them.
-pub(crate) fn scaled_bounds(extents: GlyphExtents, scale: &Scale) -> GlyphExtents {
-    let (x, y) = (multiplier(scale.x, scale), multiplier(scale.y, scale));
-    let right = extents.x_bearing.wrapping_add(extents.width);
-    let bottom = extents.y_bearing.wrapping_add(extents.height);
-    let x_bearing = saturating_f32_to_i32(length(extents.x_bearing, x).floor());
-    let y_bearing = saturating_f32_to_i32(length(extents.y_bearing, y).floor());
+#[tactic(auto, unfolding(crate::specs::Measures::scaled_bounds))]
+pub(crate) fn scaled_bounds(extents: GlyphExtents, scale: &Scale) -> GlyphExtents
+    ensures { result ≡ scaled_bounds extents scale.now }
+{
+    let across = multiplier(scale.x, scale);
+    let up = multiplier(scale.y, scale);
+    let x_bearing = scaled_start(extents.x_bearing, across);
+    let y_bearing = scaled_start(extents.y_bearing, up);
     GlyphExtents {
         x_bearing,
         y_bearing,
-        width: saturating_f32_to_i32(length(right, x).ceil()).wrapping_sub(x_bearing),
-        height: saturating_f32_to_i32(length(bottom, y).ceil()).wrapping_sub(y_bearing),
+        width: scaled_size(extents.x_bearing, extents.width, across, x_bearing),
+        height: scaled_size(extents.y_bearing, extents.height, up, y_bearing),
     }
 }
 
+/// Where bounds begin on an axis.
+#[tactic(auto, unfolding(crate::specs::Measures::scaled_start))]
+fn scaled_start(bearing: i32, multiplier: f32) -> i32
+    ensures { result ≡ scaled_start bearing multiplier }
+{
+    whole_below(scaled(bearing, multiplier))
+}
+
+/// How far bounds reach on an axis from where they begin at the size.
+#[tactic(auto, unfolding(crate::specs::Measures::scaled_size))]
+fn scaled_size(bearing: i32, size: i32, multiplier: f32, start: i32) -> i32
+    ensures { start ≡ scaled_start bearing multiplier → result ≡ scaled_size bearing size multiplier }
+{
+    let end = bearing.wrapping_add(size);
+    whole_above(scaled(end, multiplier)).wrapping_sub(start)
+}
+
+/// The greatest whole number that is not above a float, as far as 32 bits reach.
+#[tactic(auto, unfolding(crate::specs::Measures::whole_below))]
+fn whole_below(number: f32) -> i32
+    ensures { result ≡ whole_below number }
+{
+    saturating_f32_to_i32(number.floor())
+}
+
+/// The least whole number that is not below a float, as far as 32 bits reach.
+#[tactic(auto, unfolding(crate::specs::Measures::whole_above))]
+fn whole_above(number: f32) -> i32
+    ensures { result ≡ whole_above number }
+{
+    saturating_f32_to_i32(number.ceil())
+}
+
 /// How long a font unit is where an em is so long.
-fn multiplier(size: i32, scale: &Scale) -> f32 {
+#[tactic(auto, unfolding(crate::specs::Measures::multiplier))]
+fn multiplier(size: i32, scale: &Scale) -> f32
+    ensures { result ≡ multiplier size scale.now }
+{
     nearest_i64_to_f32(i64::from(size)) / nearest_i64_to_f32(i64::from(scale.units_per_em))
 }
 
 /// How long so many font units are.
-fn length(units: i32, multiplier: f32) -> f32 {
+#[tactic(auto, unfolding(crate::specs::Measures::scaled))]
+fn scaled(units: i32, multiplier: f32) -> f32
+    ensures { result ≡ scaled units multiplier }
+{
     nearest_i64_to_f32(i64::from(short(units))) * multiplier
 }
 
 /// A distance to the nearest whole number; another one where that is 0 or below.
-fn distance_or(distance: f32, other: i32) -> i32 {
+fn distance_or(distance: f32, other: i32) -> i32
+    ensures { result ≡ distance_or distance other }
+{
     let rounded = rounded(distance);
     if rounded > 0 { rounded } else { other }
 }

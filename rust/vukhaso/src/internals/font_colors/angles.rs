@@ -4,7 +4,7 @@
 
 #[cfg(not(any(test, feature = "std")))]
 use crate::numbers::Round;
-use crate::numbers::nearest_f64_to_f32_with_nan;
+use crate::numbers::{nearest_f64_to_f32_with_nan, nearest_i64_to_f64};
 
 /// The float that HarfBuzz has for π.
 const PI: f32 = 3.1415927;
@@ -34,8 +34,13 @@ pub(crate) fn tangent(halves: f32) -> f32 {
 fn wide_sine_and_cosine(angle: f64) -> (f64, f64) {
     let quarters = (angle / QUARTER + 0.5).floor();
     let rest = angle - quarters * QUARTER - quarters * REST;
-    let (sine, cosine) = (near_sine(rest), near_cosine(rest));
     let quadrant = quarters - 4.0 * (quarters / 4.0).floor();
+    turned(quadrant, near_sine(rest), near_cosine(rest))
+}
+
+/// The sine and the cosine of an angle in a quadrant, by those of what it has more than whole quarters
+/// of a circle.
+fn turned(quadrant: f64, sine: f64, cosine: f64) -> (f64, f64) {
     if quadrant == 0.0 {
         (sine, cosine)
     } else if quadrant == 1.0 {
@@ -47,31 +52,26 @@ fn wide_sine_and_cosine(angle: f64) -> (f64, f64) {
     }
 }
 
-/// The sine of at most an eighth of a circle, by its series: each term is the one before, times the
-/// square, through two numbers.
+/// The sine of at most an eighth of a circle.
 fn near_sine(angle: f64) -> f64 {
-    let square = angle * angle;
-    let mut sum = angle;
-    let mut term = angle;
-    let mut number = 2.0;
-    for _ in 0..8 {
-        term = -term * square / (number * (number + 1.0));
-        sum += term;
-        number += 2.0;
-    }
-    sum
+    series(angle, angle, 2)
 }
 
-/// The cosine of at most an eighth of a circle, by its series.
+/// The cosine of at most an eighth of a circle.
 fn near_cosine(angle: f64) -> f64 {
+    series(angle, 1.0, 1)
+}
+
+/// The sum of nine terms of a series: each is the one before, times the square of the angle, through
+/// two numbers in a row.
+fn series(angle: f64, first: f64, from: u8) -> f64 {
     let square = angle * angle;
-    let mut sum = 1.0;
-    let mut term = 1.0;
-    let mut number = 1.0;
-    for _ in 0..8 {
+    let mut sum = first;
+    let mut term = first;
+    for step in 0..8u32 {
+        let number = nearest_i64_to_f64(i64::from(u32::from(from) + 2 * step));
         term = -term * square / (number * (number + 1.0));
         sum += term;
-        number += 2.0;
     }
     sum
 }

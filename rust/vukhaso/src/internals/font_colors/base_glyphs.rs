@@ -4,7 +4,9 @@
 
 use crate::common::GlyphId;
 use crate::font_colors::colr::{ColrTable, delta_set, part_at};
+use crate::font_tables::bisection::row_with;
 use crate::font_tables::bytes::{tail, u16_at, u32_at};
+use crate::font_tables::rows::Keys16;
 use crate::font_variations::VariationStore;
 use crate::font_variations::index_map::IndexMap;
 
@@ -22,25 +24,25 @@ impl<'a> ColrTable<'a> {
     pub(crate) fn base_paint(&self, glyph: GlyphId) -> Option<&'a [u8]> {
         let list = part_at(self.table, 14);
         let count = u32_at(list, 0)?;
-        let record = record_of(tail(list, 4), count, glyph)?;
+        let record = record_of(list, 4, count, glyph)?;
         Some(part_of_list(list, u32_at(record, 2)?))
     }
 
     /// The paint of a layer; an empty one where there is none.
-    pub(crate) fn layer(&self, layer: u32) -> &'a [u8] {
+    pub(crate) fn layer(&self, number: u32) -> &'a [u8] {
         let list = part_at(self.table, 18);
-        if layer >= u32_at(list, 0).unwrap_or(0) {
+        if number >= u32_at(list, 0).unwrap_or(0) {
             return &[];
         }
-        let offset = u32_at(list, 4 + 4 * layer as usize).unwrap_or(0);
+        let offset = u32_at(list, 4 + 4 * number as usize).unwrap_or(0);
         part_of_list(list, offset)
     }
 
     /// The layers of a glyph that are filled with one colour each; `None` where it has none.
     pub(crate) fn layers(&self, glyph: GlyphId) -> Option<Layers> {
-        let records = tail(self.table, u32_at(self.table, 4)? as usize);
+        let start = u32_at(self.table, 4)? as usize;
         let count = u32::from(u16_at(self.table, 2)?);
-        let record = record_of(records, count, glyph)?;
+        let record = record_of(self.table, start, count, glyph)?;
         let first = u16_at(record, 2)?;
         let declared = u16_at(record, 4)?;
         let all = u16_at(self.table, 12)?;
@@ -51,9 +53,9 @@ impl<'a> ColrTable<'a> {
     }
 
     /// The glyph of a layer that is filled with one colour.
-    pub(crate) fn layer_glyph(&self, layer: u16) -> Option<GlyphId> {
+    pub(crate) fn layer_glyph(&self, number: u16) -> Option<GlyphId> {
         let layers = tail(self.table, u32_at(self.table, 8)? as usize);
-        Some(GlyphId(u16_at(layers, 4 * usize::from(layer))?))
+        Some(GlyphId(u16_at(layers, 4 * usize::from(number))?))
     }
 
     /// The delta of a number at these coordinates, by its place behind the one with the first delta set.
@@ -75,25 +77,18 @@ fn part_of_list(list: &[u8], offset: u32) -> &[u8] {
     }
 }
 
-/// The record of a glyph among records of six bytes each, which are bisected.
-fn record_of(records: &[u8], count: u32, glyph: GlyphId) -> Option<&[u8]> {
-    let mut low = 0u32;
-    let mut high = count;
-    for _ in 0..33 {
-        if low >= high {
-            break;
-        }
-        let middle = low.saturating_add((high - low - 1) / 2);
-        let record = tail(records, 6 * middle as usize);
-        let found = u16_at(record, 0)?;
-        if found == glyph.0 {
-            return Some(record);
-        }
-        if glyph.0 < found {
-            high = middle;
-        } else {
-            low = middle.saturating_add(1);
-        }
-    }
-    None
+/// The record of a glyph among so many of six bytes each, which are bisected, from a place of a table
+/// on.
+///
+/// # Requires
+///
+/// - `start < 2 ^ 32`
+fn record_of(table: &[u8], start: usize, count: u32, glyph: GlyphId) -> Option<&[u8]> {
+    let keys = Keys16 {
+        table,
+        start,
+        size: 6,
+    };
+    let row = row_with(&keys, count as usize, u32::from(glyph.0))?;
+    Some(tail(table, start + 6 * row))
 }

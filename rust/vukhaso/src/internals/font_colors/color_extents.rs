@@ -9,6 +9,7 @@ use crate::font_colors::extents::Extents;
 use crate::font_colors::outlines::DrawnOutlines;
 use crate::font_colors::painter::{Canvas, DEEPEST_PAINT, Painter, Visits};
 use crate::font_colors::transform::Transform;
+use crate::font_gvar::glyf::NO_BOX;
 use crate::glyph::GlyphExtents;
 use crate::memory::AllocError;
 use crate::numbers::saturating_f32_to_i32;
@@ -98,7 +99,7 @@ impl<'p> Painter<'p> {
 /// in HarfBuzz.
 fn whole(extents: &Extents) -> GlyphExtents {
     if extents.is_void() {
-        return GlyphExtents::default();
+        return NO_BOX;
     }
     GlyphExtents {
         x_bearing: saturating_f32_to_i32(extents.x_min),

@@ -56,18 +56,13 @@ impl Extents {
         }
     }
 
-    /// The least box around this one and a point.
-    pub(crate) fn including(&self, x: f32, y: f32) -> Extents {
-        let point = Extents {
+    /// The box around a point.
+    pub(crate) fn at(x: f32, y: f32) -> Extents {
+        Extents {
             x_min: x,
             y_min: y,
             x_max: x,
             y_max: y,
-        };
-        if self.is_void() {
-            point
-        } else {
-            self.joined(&point)
         }
     }
 }

@@ -80,9 +80,7 @@ impl DrawnOutlines<'_> {
     fn scaled(&self, low: (f32, f32), high: (f32, f32)) -> Extents {
         let x = root(self.scale.x, self.scale.units_per_em);
         let y = root(self.scale.y, self.scale.units_per_em);
-        Extents::VOID
-            .including(low.0 * x, low.1 * y)
-            .including(high.0 * x, high.1 * y)
+        Extents::at(low.0 * x, low.1 * y).joined(&Extents::at(high.0 * x, high.1 * y))
     }
 }
 

@@ -231,20 +231,9 @@ impl<'p> Painter<'p> {
             return Some(to.after(&self.matrix(behind(paint, 4), format == 13)));
         }
         let values = self.values(paint, format)?;
-        let center = match format / 2 {
-            9 | 15 => (values.distance(2), values.distance(3)),
-            11 | 13 => (values.distance(1), values.distance(2)),
-            _ => (0.0, 0.0),
-        };
-        let to = to.translated(center.0, center.1);
-        let to = match format / 2 {
-            7 => to.translated(values.distance(0), values.distance(1)),
-            8 | 9 => to.scaled(values.ratio(0), values.ratio(1)),
-            10 | 11 => to.scaled(values.ratio(0), values.ratio(0)),
-            12 | 13 => to.rotated(values.ratio(0)),
-            _ => to.skewed(values.ratio(0), values.ratio(1)),
-        };
-        Some(to.translated(-center.0, -center.1))
+        let (x, y) = center_of(&values, format);
+        let to = turned_by(&to.translated(x, y), &values, format);
+        Some(to.translated(-x, -y))
     }
 
     /// The transform of a matrix.
@@ -268,14 +257,7 @@ impl<'p> Painter<'p> {
     /// The numbers of a paint that moves, scales, turns or slants; `None` where it is none, or is cut
     /// short.
     fn values(self, paint: &'p [u8], format: u8) -> Option<PaintValues<'p>> {
-        let count = match format / 2 {
-            7 | 8 | 14 => 2,
-            9 | 15 => 4,
-            10 | 12 => 1,
-            11 | 13 => 3,
-            _ => return None,
-        };
-        let end = 4 + 2 * count;
+        let end = 4 + 2 * value_count(format)?;
         let first = if format % 2 == 1 {
             u32_at(paint, end)?
         } else if paint.len() < end {
@@ -294,6 +276,37 @@ impl<'p> Painter<'p> {
             paint,
             first,
         }
+    }
+}
+
+/// The center of a paint that scales, turns or slants around one, and else the origin.
+fn center_of(values: &PaintValues<'_>, format: u8) -> (f32, f32) {
+    match format / 2 {
+        9 | 15 => (values.distance(2), values.distance(3)),
+        11 | 13 => (values.distance(1), values.distance(2)),
+        _ => (0.0, 0.0),
+    }
+}
+
+/// A transform after what a paint does.
+fn turned_by(to: &Transform, values: &PaintValues<'_>, format: u8) -> Transform {
+    match format / 2 {
+        7 => to.translated(values.distance(0), values.distance(1)),
+        8 | 9 => to.scaled(values.ratio(0), values.ratio(1)),
+        10 | 11 => to.scaled(values.ratio(0), values.ratio(0)),
+        12 | 13 => to.rotated(values.ratio(0)),
+        _ => to.skewed(values.ratio(0), values.ratio(1)),
+    }
+}
+
+/// How many numbers a paint of a format has; `None` where it neither moves, scales, turns nor slants.
+fn value_count(format: u8) -> Option<usize> {
+    match format / 2 {
+        7 | 8 | 14 => Some(2),
+        9 | 15 => Some(4),
+        10 | 12 => Some(1),
+        11 | 13 => Some(3),
+        _ => None,
     }
 }
 

@@ -178,7 +178,9 @@ impl<'a> Face<'a> {
     ///
     /// # Proved
     ///
-    /// That it returns.
+    /// ```text
+    /// ensures { result ≡ is_some (glyph_index self.now.characters.subtable.now self.now.characters.encoding character) }
+    /// ```
     #[inline]
     pub fn has_glyph(&self, character: char) -> bool {
         self.glyph_index(character as u32).is_some()

@@ -75,15 +75,34 @@ impl Face<'_> {
     ///
     /// # Proved
     ///
-    /// That it returns.
+    /// ```text
+    /// ensures plain { self.now.variations.coordinates.items ≡ [] → result ≡ ver_advance self.now glyph.0 }
+    /// ensures varied { IsSome self.now.variations.vertical → result ≡ ver_advance self.now glyph.0 }
+    /// ensures lines { has_vertical_metrics self.now ≡ false → result ≡ ver_advance self.now glyph.0 }
+    /// ```
     #[inline]
     pub fn glyph_ver_advance(&self, glyph: GlyphId) -> i32 {
-        if self.vertical.has_advance(GlyphId(0)) {
-            self.scale
-                .em_scale_y(short(self.vertical_units(glyph).saturating_neg()))
+        if self.has_vertical_metrics() {
+            self.back_by_units(glyph)
         } else {
-            line_height(self.line_extents()).wrapping_neg()
+            self.back_by_line()
         }
+    }
+
+    /// Whether the font has a table `vmtx`.
+    fn has_vertical_metrics(&self) -> bool {
+        self.vertical.has_advance(GlyphId(0))
+    }
+
+    /// How far a glyph moves the pen up by that table.
+    fn back_by_units(&self, glyph: GlyphId) -> i32 {
+        let units = self.vertical_units(glyph).saturating_neg();
+        self.scale.em_scale_y(short(units))
+    }
+
+    /// How far each glyph of a font without that table moves the pen up.
+    fn back_by_line(&self) -> i32 {
+        line_height(self.line_extents()).wrapping_neg()
     }
 
     /// Where a glyph's origin in vertical lines stands, from its origin in horizontal ones.
@@ -94,10 +113,13 @@ impl Face<'_> {
     ///
     /// # Proved
     ///
-    /// That it returns.
+    /// ```text
+    /// ensures plain { self.now.variations.coordinates.items ≡ []
+    ///     → result ≡ Ok (int_div (hor_advance self.now glyph.0) (pos 2), ver_origin self.now glyph.0) }
+    /// ```
     #[inline]
     pub fn vertical_origin(&self, glyph: GlyphId) -> Result<(i32, i32), AllocError> {
-        let x = self.glyph_hor_advance(glyph) / 2;
+        let x = half(self.glyph_hor_advance(glyph));
         Ok((x, self.vertical_origin_y(glyph)?))
     }
 
@@ -106,14 +128,7 @@ impl Face<'_> {
     /// the font's ascender.
     fn vertical_origin_y(&self, glyph: GlyphId) -> Result<i32, AllocError> {
         if let Some(y) = self.vorg.y_origin(glyph) {
-            let delta = match &self.variations.vertical {
-                Some(table) if !self.coordinates().is_empty() => {
-                    table.origin_delta(glyph, self.coordinates())
-                }
-                _ => 0.0,
-            };
-            let multiplier = multiplier(self.scale.y, &self.scale);
-            return Ok(rounded((float(i32::from(y)) + delta) * multiplier));
+            return Ok(self.listed_origin(y, glyph));
         }
         if self.coordinates().is_empty() {
             let bearing = self.horizontal.side_bearing(glyph);
@@ -128,6 +143,19 @@ impl Face<'_> {
             }
             None => Ok(self.origin_by(None, None)),
         }
+    }
+
+    /// How far up a glyph's origin in vertical lines stands that the table `VORG` has, by its y coordinate
+    /// there.
+    fn listed_origin(&self, y: i16, glyph: GlyphId) -> i32 {
+        let units = float(i32::from(y));
+        let units = match &self.variations.vertical {
+            Some(table) if !self.coordinates().is_empty() => {
+                units + table.origin_delta(glyph, self.coordinates())
+            }
+            _ => units,
+        };
+        rounded(units * multiplier(self.scale.y, &self.scale))
     }
 
     /// How far a glyph's bounds begin below its origin in vertical lines, in font units, at the variations
@@ -170,7 +198,10 @@ impl Face<'_> {
     ///
     /// # Proved
     ///
-    /// That it returns.
+    /// ```text
+    /// ensures color { IfSome (color_bounds self.now.color glyph.0 self.now.variations.coordinates.items self.now.scale)
+    ///     (λ bounds. result ≡ Ok (Some bounds)) }
+    /// ```
     #[inline]
     pub fn glyph_extents(&self, glyph: GlyphId) -> Result<Option<GlyphExtents>, AllocError> {
         BoundsSource::new(self).bounds(glyph, self.coordinates())
@@ -194,6 +225,11 @@ impl Face<'_> {
     }
 }
 
+/// Half of a number, toward 0.
+fn half(number: i32) -> i32 {
+    number / 2
+}
+
 /// How high horizontal lines are.
 fn line_height(extents: FontExtents) -> i32 {
     extents.ascender.wrapping_sub(extents.descender)
@@ -211,17 +247,37 @@ fn extents_of_em(em: i32) -> FontExtents {
 
 /// Bounds in font units at a size: the whole units around them.
 pub(crate) fn scaled_bounds(extents: GlyphExtents, scale: &Scale) -> GlyphExtents {
-    let (x, y) = (multiplier(scale.x, scale), multiplier(scale.y, scale));
-    let right = extents.x_bearing.wrapping_add(extents.width);
-    let bottom = extents.y_bearing.wrapping_add(extents.height);
-    let x_bearing = saturating_f32_to_i32(length(extents.x_bearing, x).floor());
-    let y_bearing = saturating_f32_to_i32(length(extents.y_bearing, y).floor());
+    let across = multiplier(scale.x, scale);
+    let up = multiplier(scale.y, scale);
+    let x_bearing = scaled_start(extents.x_bearing, across);
+    let y_bearing = scaled_start(extents.y_bearing, up);
     GlyphExtents {
         x_bearing,
         y_bearing,
-        width: saturating_f32_to_i32(length(right, x).ceil()).wrapping_sub(x_bearing),
-        height: saturating_f32_to_i32(length(bottom, y).ceil()).wrapping_sub(y_bearing),
+        width: scaled_size(extents.x_bearing, extents.width, across, x_bearing),
+        height: scaled_size(extents.y_bearing, extents.height, up, y_bearing),
     }
+}
+
+/// Where bounds begin on an axis.
+fn scaled_start(bearing: i32, multiplier: f32) -> i32 {
+    whole_below(scaled(bearing, multiplier))
+}
+
+/// How far bounds reach on an axis from where they begin at the size.
+fn scaled_size(bearing: i32, size: i32, multiplier: f32, start: i32) -> i32 {
+    let end = bearing.wrapping_add(size);
+    whole_above(scaled(end, multiplier)).wrapping_sub(start)
+}
+
+/// The greatest whole number that is not above a float, as far as 32 bits reach.
+fn whole_below(number: f32) -> i32 {
+    saturating_f32_to_i32(number.floor())
+}
+
+/// The least whole number that is not below a float, as far as 32 bits reach.
+fn whole_above(number: f32) -> i32 {
+    saturating_f32_to_i32(number.ceil())
 }
 
 /// How long a font unit is where an em is so long.
@@ -230,7 +286,7 @@ fn multiplier(size: i32, scale: &Scale) -> f32 {
 }
 
 /// How long so many font units are.
-fn length(units: i32, multiplier: f32) -> f32 {
+fn scaled(units: i32, multiplier: f32) -> f32 {
     nearest_i64_to_f32(i64::from(short(units))) * multiplier
 }
 

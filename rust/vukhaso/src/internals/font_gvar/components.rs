@@ -187,7 +187,7 @@ fn component_at(bytes: &[u8], flags: u16) -> Component {
         anchors: if are_offsets {
             None
         } else {
-            Some(anchors(arguments, flags))
+            Some((argument(arguments, flags, 0), argument(arguments, flags, 1)))
         },
         matrix: matrix_at(tail(arguments, arguments_size(flags)), flags),
     }
@@ -204,35 +204,29 @@ fn glyph_of(number: u32) -> Option<GlyphId> {
 
 /// How far a component is moved.
 fn offset(arguments: &[u8], flags: u16) -> Point {
-    let (x, y) = if has_flag(flags, ARGUMENTS_ARE_WORDS) {
-        (
-            i32::from(i16_at(arguments, 0).unwrap_or(0)),
-            i32::from(i16_at(arguments, 2).unwrap_or(0)),
-        )
-    } else {
-        (
-            i32::from(u8_at(arguments, 0).unwrap_or(0).to_signed()),
-            i32::from(u8_at(arguments, 1).unwrap_or(0).to_signed()),
-        )
-    };
     Point {
-        x: float(x),
-        y: float(y),
+        x: float(signed_argument(arguments, flags, 0)),
+        y: float(signed_argument(arguments, flags, 1)),
     }
 }
 
-/// The points that meet.
-fn anchors(arguments: &[u8], flags: u16) -> (u32, u32) {
+/// The first or the second argument, as a signed number.
+fn signed_argument(arguments: &[u8], flags: u16, place: u8) -> i32 {
+    let place = usize::from(place);
     if has_flag(flags, ARGUMENTS_ARE_WORDS) {
-        (
-            u32::from(u16_at(arguments, 0).unwrap_or(0)),
-            u32::from(u16_at(arguments, 2).unwrap_or(0)),
-        )
+        i32::from(i16_at(arguments, 2 * place).unwrap_or(0))
     } else {
-        (
-            u32::from(u8_at(arguments, 0).unwrap_or(0)),
-            u32::from(u8_at(arguments, 1).unwrap_or(0)),
-        )
+        i32::from(u8_at(arguments, place).unwrap_or(0).to_signed())
+    }
+}
+
+/// The first or the second argument, as the number of a point.
+fn argument(arguments: &[u8], flags: u16, place: u8) -> u32 {
+    let place = usize::from(place);
+    if has_flag(flags, ARGUMENTS_ARE_WORDS) {
+        u32::from(u16_at(arguments, 2 * place).unwrap_or(0))
+    } else {
+        u32::from(u8_at(arguments, place).unwrap_or(0))
     }
 }
 

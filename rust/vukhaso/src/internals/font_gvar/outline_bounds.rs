@@ -3,6 +3,7 @@
 //! The bounds of glyphs at a place in the variations of a font.
 
 use crate::common::GlyphId;
+use crate::font_gvar::glyf::NO_BOX;
 use crate::font_gvar::outlines::last_phantoms;
 use crate::font_gvar::phantoms::{DEEPEST_GLYPH, MOST_GLYPHS, Phantoms};
 use crate::font_gvar::points::{OutlinePoint, Point};
@@ -47,20 +48,17 @@ pub fn varied_outline(
     if !source.push_glyph(glyph, DEEPEST_GLYPH, &mut steps, &mut points)? {
         return Ok(None);
     }
-    Ok(Some(outline_of(points.as_slice())))
+    let all = points.as_slice();
+    Ok(Some(outline_of(all, &last_phantoms(all))))
 }
 
-/// The outline of these points, of which the last four are phantom points.
-fn outline_of(points: &[OutlinePoint]) -> VariedOutline {
-    let phantoms = last_phantoms(points);
+/// The outline of these points, of which the last four are its phantom points.
+fn outline_of(points: &[OutlinePoint], phantoms: &Phantoms) -> VariedOutline {
     let by = Point {
         x: -phantoms.left.x,
         y: 0.0,
     };
-    let mut bounds = PointBounds::EMPTY;
-    for point in points.iter().take(points.len().saturating_sub(4)) {
-        bounds = bounds.including(point.at.moved(by));
-    }
+    let bounds = bounds_of(&points[..points.len().saturating_sub(4)], by);
     VariedOutline {
         extents: bounds.extents(),
         bounds,
@@ -71,6 +69,15 @@ fn outline_of(points: &[OutlinePoint]) -> VariedOutline {
             bottom: phantoms.bottom.moved(by),
         },
     }
+}
+
+/// The box around points, each moved by a distance.
+fn bounds_of(points: &[OutlinePoint], by: Point) -> PointBounds {
+    let mut bounds = PointBounds::EMPTY;
+    for point in points {
+        bounds = bounds.including(point.at.moved(by));
+    }
+    bounds
 }
 
 /// The box around points: one without points ends before it begins.
@@ -113,7 +120,7 @@ impl PointBounds {
     /// there to the other sides.
     fn extents(self) -> GlyphExtents {
         if self.min.x >= self.max.x || self.min.y >= self.max.y {
-            return GlyphExtents::default();
+            return NO_BOX;
         }
         let x_bearing = rounded(self.min.x);
         let y_bearing = rounded(self.max.y);

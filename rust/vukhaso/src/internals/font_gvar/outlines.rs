@@ -142,14 +142,15 @@ fn push_phantoms(points: &mut Vec<OutlinePoint>, phantoms: &Phantoms) -> Result<
 
 /// The last four points, which are phantom points.
 pub(crate) fn last_phantoms(points: &[OutlinePoint]) -> Phantoms {
-    match points {
-        [.., left, right, top, bottom] => Phantoms {
-            left: left.at,
-            right: right.at,
-            top: top.at,
-            bottom: bottom.at,
-        },
-        _ => Phantoms::default(),
+    let len = points.len();
+    if len < 4 {
+        return Phantoms::default();
+    }
+    Phantoms {
+        left: points[len - 4].at,
+        right: points[len - 3].at,
+        top: points[len - 2].at,
+        bottom: points[len - 1].at,
     }
 }
 

@@ -158,7 +158,13 @@ impl VariedPhantoms {
 
     /// Adds a tuple's deltas of phantom points, which stand behind so many points.
     fn add(&mut self, tuple: &Tuple<'_>, scalar: f32, count: u32) -> Option<()> {
-        let mut deltas = TupleDeltas::new(tuple, count.saturating_add(4), count)?;
+        let deltas = TupleDeltas::new(tuple, count.saturating_add(4), count)?;
+        self.add_deltas(deltas, scalar, count);
+        Some(())
+    }
+
+    /// Adds deltas of points, where they are not for all points on those that are moved by all before.
+    fn add_deltas(&mut self, mut deltas: TupleDeltas<'_>, scalar: f32, count: u32) {
         if !deltas.is_for_all {
             self.settle();
         }
@@ -170,7 +176,6 @@ impl VariedPhantoms {
             }
         }
         self.is_pending = true;
-        Some(())
     }
 }
 

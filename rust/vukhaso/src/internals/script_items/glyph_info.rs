@@ -113,7 +113,8 @@ pub fn is_variation_selector(info: &hb_glyph_info_t) -> bool {
 /// # Proved
 ///
 /// ```text
-/// ensures { info.new.cluster ≡ info.old.cluster }
+/// ensures is { info.new ≡ selectors.unknown_selector info.old }
+/// ensures cluster { info.new.cluster ≡ info.old.cluster }
 /// ```
 #[inline]
 pub fn set_variation_selector(info: &mut hb_glyph_info_t) {
@@ -140,7 +141,8 @@ pub fn clear_variation_selector(info: &mut hb_glyph_info_t) {
 /// # Proved
 ///
 /// ```text
-/// ensures { info.new.cluster ≡ info.old.cluster }
+/// ensures is { info.new ≡ properties.visible info.old }
+/// ensures cluster { info.new.cluster ≡ info.old.cluster }
 /// ```
 #[inline]
 pub fn clear_default_ignorable(info: &mut hb_glyph_info_t) {
@@ -164,7 +166,8 @@ pub fn is_unicode_space(info: &hb_glyph_info_t) -> bool {
 /// # Proved
 ///
 /// ```text
-/// ensures { info.new.cluster ≡ info.old.cluster }
+/// ensures is { info.new ≡ spaces.with_kind space info.old }
+/// ensures cluster { info.new.cluster ≡ info.old.cluster }
 /// ```
 #[inline]
 pub fn set_space_fallback(info: &mut hb_glyph_info_t, space: space_t) {

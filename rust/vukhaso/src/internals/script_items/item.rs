@@ -66,7 +66,9 @@ pub fn is_unicode_mark(info: &hb_glyph_info_t) -> bool {
 ///
 /// # Proved
 ///
-/// That it returns.
+/// ```text
+/// ensures { result ≡ marks.is_mark_or_format info.now }
+/// ```
 #[inline]
 pub fn is_mark_or_format(info: &hb_glyph_info_t) -> bool {
     matches!(
@@ -82,15 +84,13 @@ pub fn is_mark_or_format(info: &hb_glyph_info_t) -> bool {
 /// # Proved
 ///
 /// ```text
-/// ensures { info.new.cluster ≡ info.old.cluster }
+/// ensures is { info.new ≡ continuing_mark info.old }
+/// ensures cluster { info.new.cluster ≡ info.old.cluster }
 /// ```
 #[inline]
 pub fn become_mark(info: &mut hb_glyph_info_t) {
-    let kept = info.unicode_props() & 0xFF & !UnicodeProps::GENERAL_CATEGORY.bits();
-    info.set_unicode_props(
-        kept | UnicodeProps::CONTINUATION.bits()
-            | RB_UNICODE_GENERAL_CATEGORY_NON_SPACING_MARK as u16,
-    );
+    let flags = (info.unicode_props() | UnicodeProps::CONTINUATION.bits()) & 0xE0;
+    info.set_unicode_props(RB_UNICODE_GENERAL_CATEGORY_NON_SPACING_MARK as u16 | flags);
 }
 
 /// The class by which a mark is reordered; 0 for any other character.
@@ -129,7 +129,9 @@ pub fn set_modified_combining_class(info: &mut hb_glyph_info_t, class: u16) {
 ///
 /// # Proved
 ///
-/// That it returns.
+/// ```text
+/// ensures { result ≡ properties.is_default_ignorable info.now }
+/// ```
 #[inline]
 pub fn is_default_ignorable(info: &hb_glyph_info_t) -> bool {
     info.unicode_props() & UnicodeProps::IGNORABLE.bits() != 0

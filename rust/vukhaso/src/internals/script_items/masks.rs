@@ -14,6 +14,7 @@ use crate::script_items::item::shaper_byte;
 /// # Proved
 ///
 /// ```text
+/// ensures is { buffer.new ≡ record buffer.old { input = map (with_form_mask masks.now) buffer.old.input } }
 /// ensures closed { buffer.new.have_output ≡ false }
 /// ensures keeps { KeepsClusters buffer.old buffer.new }
 /// ```
@@ -25,8 +26,8 @@ pub fn add_masks(buffer: &mut hb_buffer_t, masks: &[u32; 8]) {
 
 /// Does that with these items.
 fn add_masks_to(infos: &mut [hb_glyph_info_t], masks: &[u32; 8]) {
-    for i in 0..infos.len() {
-        add_mask(&mut infos[i], masks);
+    for info in infos.iter_mut() {
+        add_mask(info, masks);
     }
 }
 

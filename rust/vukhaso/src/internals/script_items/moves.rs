@@ -15,6 +15,7 @@ use crate::buffer::{hb_buffer_t, hb_glyph_info_t};
 /// # Proved
 ///
 /// ```text
+/// ensures is { buffer.new ≡ step.merge_clusters start end buffer.old }
 /// ensures closed { buffer.new.have_output ≡ false }
 /// ensures length { length buffer.new.input ≡ length buffer.old.input }
 /// ensures one { IsOneCluster (any_order buffer.new) start end buffer.new.input }
@@ -40,6 +41,7 @@ pub fn merge(buffer: &mut hb_buffer_t, start: usize, end: usize) {
 /// # Proved
 ///
 /// ```text
+/// ensures is { buffer.new ≡ step.merge_out_clusters start end buffer.old }
 /// ensures opened { buffer.new.have_output ≡ true }
 /// ensures length { length buffer.new.out ≡ length buffer.old.out }
 /// ensures one { IsOneCluster (any_order buffer.new) start end buffer.new.out }
@@ -66,6 +68,8 @@ pub fn merge_out(buffer: &mut hb_buffer_t, start: usize, end: usize) {
 /// # Proved
 ///
 /// ```text
+/// ensures is { buffer.new ≡ record buffer.old { input = moved start middle end buffer.old.input } }
+/// ensures length { length buffer.new.input ≡ length buffer.old.input }
 /// ensures closed { buffer.new.have_output ≡ false }
 /// ensures keeps { KeepsClusters buffer.old buffer.new }
 /// ```
@@ -91,6 +95,7 @@ pub fn move_back(buffer: &mut hb_buffer_t, start: usize, middle: usize, end: usi
 /// # Proved
 ///
 /// ```text
+/// ensures is { buffer.new ≡ record buffer.old { out = moved start middle end buffer.old.out } }
 /// ensures opened { buffer.new.have_output ≡ true }
 /// ensures keeps { KeepsClusters buffer.old buffer.new }
 /// ```

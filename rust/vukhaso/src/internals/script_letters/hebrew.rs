@@ -86,6 +86,7 @@ pub fn presentation_form(a: char, b: char) -> Option<char> {
 /// # Proved
 ///
 /// ```text
+/// ensures is { hebrew.IsReordered start end buffer.old buffer.new }
 /// ensures closed { buffer.new.have_output ≡ false }
 /// ensures keeps { KeepsClusters buffer.old buffer.new }
 /// ```
@@ -93,8 +94,9 @@ pub fn presentation_form(a: char, b: char) -> Option<char> {
 pub fn reorder_marks(buffer: &mut hb_buffer_t, start: usize, end: usize) {
     debug_assert!(!buffer.have_output());
     let end = end.min(buffer.len());
-    if let Some(place) = misplaced_mark(buffer.info(), start, end) {
-        move_mark(buffer, place);
+    match misplaced_mark(buffer.info(), start, end) {
+        Some(place) => move_mark(buffer, place),
+        None => {}
     }
 }
 
@@ -102,29 +104,37 @@ pub fn reorder_marks(buffer: &mut hb_buffer_t, start: usize, end: usize) {
 ///
 /// # Requires
 ///
-/// - `buffer.old.have_output ≡ false`
+/// - `closed: buffer.old.have_output ≡ false`
+/// - `behind: 0 < place`
+/// - `within: place < length buffer.old.input`
 fn move_mark(buffer: &mut hb_buffer_t, place: usize) {
     debug_assert!(!buffer.have_output());
-    if place == 0 || place >= buffer.len() {
-        return;
-    }
+    debug_assert!(0 < place);
+    debug_assert!(place < buffer.info().len());
+    debug_assert!(place < buffer.len());
     merge(buffer, place - 1, place + 1);
     move_back(buffer, place - 1, place, place + 1);
 }
 
 /// The place of the first mark, of those from `start` to `end`, that belongs before the one in front of
 /// it.
+///
+/// # Requires
+///
+/// - `end ≤ length infos.now`
 fn misplaced_mark(infos: &[hb_glyph_info_t], start: usize, end: usize) -> Option<usize> {
-    let marks = infos.get(start..end)?;
-    for (i, three) in marks.windows(3).enumerate() {
-        if let [vowel, point, below] = three {
-            if matches!(modified_combining_class(vowel), PATAH | QAMATS)
-                && matches!(modified_combining_class(point), SHEVA | HIRIQ)
-                && matches!(modified_combining_class(below), METEG | BELOW)
-            {
-                return Some(start + i + 2);
-            }
+    debug_assert!(end <= infos.len());
+    for place in start.saturating_add(2)..end {
+        if is_misplaced(&infos[place - 2], &infos[place - 1], &infos[place]) {
+            return Some(place);
         }
     }
     None
+}
+
+/// Whether the last of three marks belongs before the second.
+fn is_misplaced(vowel: &hb_glyph_info_t, point: &hb_glyph_info_t, below: &hb_glyph_info_t) -> bool {
+    matches!(modified_combining_class(vowel), PATAH | QAMATS)
+        && matches!(modified_combining_class(point), SHEVA | HIRIQ)
+        && matches!(modified_combining_class(below), METEG | BELOW)
 }

@@ -125,12 +125,39 @@ impl Category {
     ///
     /// # Proved
     ///
-    /// That it returns.
+    /// ```text
+    /// ensures { result ≡ category_of_number number }
+    /// ```
     #[inline]
     pub fn numbered(number: u8) -> Category {
         match CATEGORIES.get(usize::from(number)) {
             Some(category) => *category,
             None => Category::Other,
         }
+    }
+
+    /// Whether it is this one.
+    ///
+    /// # Proved
+    ///
+    /// ```text
+    /// ensures { result ≡ same_category self other }
+    /// ```
+    #[inline]
+    pub fn is(self, other: Category) -> bool {
+        self == other
+    }
+
+    /// Whether it is a consonant, or what takes signs as one.
+    pub(crate) fn takes_signs(self) -> bool {
+        matches!(
+            self,
+            Category::Consonant
+                | Category::ConsonantWithStacker
+                | Category::Ra
+                | Category::Vowel
+                | Category::Placeholder
+                | Category::DottedCircle
+        )
     }
 }

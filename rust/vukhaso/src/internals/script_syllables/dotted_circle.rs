@@ -84,7 +84,7 @@ fn put_circles(buffer: &mut hb_buffer_t, circle: &Circle) -> Result<bool, AllocE
     let mut last = 0;
     for _turn in 0..buffer.len() {
         if buffer.lookahead_len() == 0 {
-            break;
+            return Ok(true);
         }
         match read_next(buffer, circle, last)? {
             Some(syllable) => last = syllable,
@@ -112,33 +112,59 @@ fn read_next(
 ) -> Result<Option<u8>, AllocError> {
     debug_assert!(buffer.have_output());
     debug_assert!(!buffer.info().is_empty());
-    let syllable = buffer.cur(0).syllable();
-    let is_first = syllable != last && kind_of(buffer.cur(0)) == circle.kind.broken;
-    if is_first {
-        let rephs = reph_count(buffer.info(), syllable, circle.kind.repha);
-        if !put_circle(buffer, circle, rephs)? {
-            return Ok(None);
-        }
-        if rephs > 0 || buffer.lookahead_len() == 0 {
-            return Ok(Some(syllable));
-        }
+    if begins_broken(circle, last, buffer.cur(0)) {
+        return read_broken(buffer, circle);
     }
     if !buffer.next_glyph()? {
         return Ok(None);
     }
-    Ok(Some(if is_first { syllable } else { last }))
+    Ok(Some(last))
+}
+
+/// Reads the rephs of a broken syllable, or where it has none its first item, and puts the circle out.
+///
+/// # Requires
+///
+/// - `opened: buffer.old.have_output ≡ true`
+/// - `glyph: 0 < length buffer.old.input`
+fn read_broken(buffer: &mut hb_buffer_t, circle: &Circle) -> Result<Option<u8>, AllocError> {
+    debug_assert!(buffer.have_output());
+    debug_assert!(!buffer.info().is_empty());
+    let syllable = buffer.cur(0).syllable();
+    let rephs = reph_count(buffer.info(), syllable, circle.kind.repha);
+    if !put_circle(buffer, circle, rephs)? {
+        return Ok(None);
+    }
+    if rephs > 0 {
+        return Ok(Some(syllable));
+    }
+    if !buffer.next_glyph()? {
+        return Ok(None);
+    }
+    Ok(Some(syllable))
+}
+
+/// Whether an item is the first of a broken syllable, where the last of these had this number.
+fn begins_broken(circle: &Circle, last: u8, info: &hb_glyph_info_t) -> bool {
+    info.syllable() != last && kind_of(info) == circle.kind.broken
 }
 
 /// How many items at the start of a list are rephs of a syllable.
 fn reph_count(infos: &[hb_glyph_info_t], syllable: u8, repha: Option<u8>) -> usize {
-    let mut count = 0;
-    while count < infos.len()
-        && infos[count].syllable() == syllable
-        && Some(category_byte(&infos[count])) == repha
-    {
-        count += 1;
+    for count in 0..infos.len() {
+        if !is_reph(&infos[count], syllable, repha) {
+            return count;
+        }
     }
-    count
+    infos.len()
+}
+
+/// Whether an item is a reph of a syllable.
+fn is_reph(info: &hb_glyph_info_t, syllable: u8, repha: Option<u8>) -> bool {
+    match repha {
+        Some(category) => info.syllable() == syllable && category_byte(info) == category,
+        None => false,
+    }
 }
 
 /// Reads so many rephs, and puts a circle out behind them, in the cluster and with the mask of the
@@ -166,10 +192,11 @@ fn circle_at(circle: &Circle, current: &hb_glyph_info_t) -> hb_glyph_info_t {
         glyph_id: circle.glyph,
         mask: current.mask,
         cluster: current.cluster,
-        ..hb_glyph_info_t::default()
+        var1: 0,
+        var2: 0,
     };
+    info.set_syllable(current.syllable());
     set_category_byte(&mut info, circle.kind.category);
     set_position(&mut info, circle.kind.position);
-    info.set_syllable(current.syllable());
     info
 }

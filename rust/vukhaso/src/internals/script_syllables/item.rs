@@ -12,7 +12,9 @@ use crate::script_syllables::category::search::category_of;
 ///
 /// # Proved
 ///
-/// That it returns.
+/// ```text
+/// ensures { result ≡ items.category_byte info.now }
+/// ```
 #[inline]
 pub fn category_byte(info: &hb_glyph_info_t) -> u8 {
     (info.var2 / 0x1_0000 % 0x100) as u8
@@ -23,7 +25,8 @@ pub fn category_byte(info: &hb_glyph_info_t) -> u8 {
 /// # Proved
 ///
 /// ```text
-/// ensures { info.new.cluster ≡ info.old.cluster }
+/// ensures is { info.new ≡ items.with_category_byte byte info.old }
+/// ensures cluster { info.new.cluster ≡ info.old.cluster }
 /// ```
 #[inline]
 pub fn set_category_byte(info: &mut hb_glyph_info_t, byte: u8) {
@@ -34,7 +37,9 @@ pub fn set_category_byte(info: &mut hb_glyph_info_t, byte: u8) {
 ///
 /// # Proved
 ///
-/// That it returns.
+/// ```text
+/// ensures { result ≡ items.category info.now }
+/// ```
 #[inline]
 pub fn category(info: &hb_glyph_info_t) -> Category {
     Category::numbered(category_byte(info))
@@ -45,7 +50,8 @@ pub fn category(info: &hb_glyph_info_t) -> Category {
 /// # Proved
 ///
 /// ```text
-/// ensures { info.new.cluster ≡ info.old.cluster }
+/// ensures is { info.new ≡ items.with_category category info.old }
+/// ensures cluster { info.new.cluster ≡ info.old.cluster }
 /// ```
 #[inline]
 pub fn set_category(info: &mut hb_glyph_info_t, category: Category) {
@@ -56,7 +62,9 @@ pub fn set_category(info: &mut hb_glyph_info_t, category: Category) {
 ///
 /// # Proved
 ///
-/// That it returns.
+/// ```text
+/// ensures { result ≡ items.position info.now }
+/// ```
 #[inline]
 pub fn position(info: &hb_glyph_info_t) -> Position {
     Position::numbered((info.var2 / 0x100_0000) as u8)
@@ -67,7 +75,8 @@ pub fn position(info: &hb_glyph_info_t) -> Position {
 /// # Proved
 ///
 /// ```text
-/// ensures { info.new.cluster ≡ info.old.cluster }
+/// ensures is { info.new ≡ items.with_position position info.old }
+/// ensures cluster { info.new.cluster ≡ info.old.cluster }
 /// ```
 #[inline]
 pub fn set_position(info: &mut hb_glyph_info_t, position: Position) {
@@ -78,19 +87,73 @@ pub fn set_position(info: &mut hb_glyph_info_t, position: Position) {
 ///
 /// # Proved
 ///
-/// That it returns.
+/// ```text
+/// ensures { result ≡ items.is_consonant info.now }
+/// ```
 #[inline]
 pub fn is_consonant(info: &hb_glyph_info_t) -> bool {
-    !is_ligated(info)
-        && matches!(
-            category(info),
-            Category::Consonant
-                | Category::ConsonantWithStacker
-                | Category::Ra
-                | Category::Vowel
-                | Category::Placeholder
-                | Category::DottedCircle
-        )
+    !is_ligated(info) && category(info).takes_signs()
+}
+
+/// Whether an item has a category, and is no ligature.
+///
+/// # Proved
+///
+/// ```text
+/// ensures { result ≡ items.is_one wanted info.now }
+/// ```
+#[inline]
+pub fn is_one(info: &hb_glyph_info_t, wanted: Category) -> bool {
+    !is_ligated(info) && category(info).is(wanted)
+}
+
+/// Whether the item is a joiner or a non-joiner, and no ligature.
+///
+/// # Proved
+///
+/// ```text
+/// ensures { result ≡ items.is_joiner info.now }
+/// ```
+#[inline]
+pub fn is_joiner(info: &hb_glyph_info_t) -> bool {
+    is_one(info, Category::Joiner) || is_one(info, Category::NonJoiner)
+}
+
+/// Whether the item is a halant, and no ligature.
+///
+/// # Proved
+///
+/// ```text
+/// ensures { result ≡ items.is_halant info.now }
+/// ```
+#[inline]
+pub fn is_halant(info: &hb_glyph_info_t) -> bool {
+    is_one(info, Category::Halant)
+}
+
+/// The place behind the joiners that stand from a place on.
+///
+/// # Proved
+///
+/// ```text
+/// ensures { result ≡ items.behind_joiners infos.now start }
+/// ```
+#[inline]
+pub fn behind_joiners(infos: &[hb_glyph_info_t], start: usize) -> usize {
+    match infos.get(start..) {
+        Some(behind) => start + joiners(behind),
+        None => start,
+    }
+}
+
+/// How many joiners a list begins with.
+fn joiners(infos: &[hb_glyph_info_t]) -> usize {
+    for place in 0..infos.len() {
+        if !is_joiner(&infos[place]) {
+            return place;
+        }
+    }
+    infos.len()
 }
 
 /// Lets each character keep its category and its position.
@@ -119,13 +182,27 @@ fn place_in(info: &mut hb_glyph_info_t, category: Category, position: Position) 
 /// # Proved
 ///
 /// ```text
-/// ensures { clusters infos.new ≡ clusters infos.old }
+/// ensures is { infos.new ≡ items.masked mask start end infos.old }
+/// ensures same { clusters infos.new ≡ clusters infos.old }
 /// ```
 #[inline]
 pub fn add_mask(infos: &mut [hb_glyph_info_t], start: usize, end: usize, mask: u32) {
-    for place in start..end.min(infos.len()) {
-        infos[place].mask |= mask;
+    let end = end.min(infos.len());
+    if start <= end {
+        add_to_all(&mut infos[start..end], mask);
     }
+}
+
+/// Gives all items of a list the features of a mask.
+fn add_to_all(infos: &mut [hb_glyph_info_t], mask: u32) {
+    for info in infos.iter_mut() {
+        add_to(info, mask);
+    }
+}
+
+/// Gives an item the features of a mask.
+fn add_to(info: &mut hb_glyph_info_t, mask: u32) {
+    info.mask |= mask;
 }
 
 /// Whether a glyph has one of these properties.
@@ -137,7 +214,9 @@ fn has(info: &hb_glyph_info_t, properties: GlyphPropsFlags) -> bool {
 ///
 /// # Proved
 ///
-/// That it returns.
+/// ```text
+/// ensures { result ≡ items.is_substituted info.now }
+/// ```
 #[inline]
 pub fn is_substituted(info: &hb_glyph_info_t) -> bool {
     has(info, GlyphPropsFlags::SUBSTITUTED)
@@ -147,7 +226,9 @@ pub fn is_substituted(info: &hb_glyph_info_t) -> bool {
 ///
 /// # Proved
 ///
-/// That it returns.
+/// ```text
+/// ensures { result ≡ items.is_ligated info.now }
+/// ```
 #[inline]
 pub fn is_ligated(info: &hb_glyph_info_t) -> bool {
     has(info, GlyphPropsFlags::LIGATED)
@@ -157,7 +238,9 @@ pub fn is_ligated(info: &hb_glyph_info_t) -> bool {
 ///
 /// # Proved
 ///
-/// That it returns.
+/// ```text
+/// ensures { result ≡ items.is_multiplied info.now }
+/// ```
 #[inline]
 pub fn is_multiplied(info: &hb_glyph_info_t) -> bool {
     has(info, GlyphPropsFlags::MULTIPLIED)
@@ -167,7 +250,9 @@ pub fn is_multiplied(info: &hb_glyph_info_t) -> bool {
 ///
 /// # Proved
 ///
-/// That it returns.
+/// ```text
+/// ensures { result ≡ items.is_whole_ligature info.now }
+/// ```
 #[inline]
 pub fn is_whole_ligature(info: &hb_glyph_info_t) -> bool {
     is_ligated(info) && !is_multiplied(info)
@@ -178,7 +263,8 @@ pub fn is_whole_ligature(info: &hb_glyph_info_t) -> bool {
 /// # Proved
 ///
 /// ```text
-/// ensures { info.new.cluster ≡ info.old.cluster }
+/// ensures is { info.new ≡ items.without_ligature info.old }
+/// ensures cluster { info.new.cluster ≡ info.old.cluster }
 /// ```
 #[inline]
 pub fn forget_ligature(info: &mut hb_glyph_info_t) {
@@ -188,5 +274,5 @@ pub fn forget_ligature(info: &mut hb_glyph_info_t) {
 
 /// Whether syllables pass over an item.
 pub(crate) fn is_passed_over(info: &hb_glyph_info_t) -> bool {
-    info.var2 >= 0x100_0000
+    info.var2 / 0x100_0000 > 0
 }

@@ -1,10 +1,10 @@
 // Written by tools/plain_rust from crates/script_syllables. Do not edit.
 
-//! Features that are asked for together.
+//! Features that are asked for together, and the masks that they have then.
 
 use crate::common::Tag;
 use crate::memory::AllocError;
-use crate::ot_map::{FeatureFlags, Pause, PlanBuilder};
+use crate::ot_map::{FeatureFlags, LayoutPlan, Pause, PlanBuilder};
 
 /// A match ends with its syllable.
 pub const PER_SYLLABLE: FeatureFlags = FeatureFlags {
@@ -93,4 +93,16 @@ fn add_one(
     let flags = FeatureFlags { is_global, ..flags };
     builder.add_feature(Tag::from_bytes(name), flags, 1)?;
     Ok(())
+}
+
+/// The mask of the value 1 of a feature; 0 where the plan has none with this name.
+///
+/// # Proved
+///
+/// ```text
+/// ensures { IsOneMask layout.now name.now result }
+/// ```
+#[inline]
+pub fn one_mask(layout: &LayoutPlan, name: &[u8; 4]) -> u32 {
+    layout.one_mask(Tag::from_bytes(name))
 }

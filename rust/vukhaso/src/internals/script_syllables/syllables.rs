@@ -135,7 +135,9 @@ pub(crate) fn kind_of(info: &hb_glyph_info_t) -> u8 {
 ///
 /// # Proved
 ///
-/// That it returns.
+/// ```text
+/// ensures { result ≡ kind_at infos.now place }
+/// ```
 #[inline]
 pub fn kind_at(infos: &[hb_glyph_info_t], place: usize) -> u8 {
     match infos.get(place) {
@@ -148,10 +150,15 @@ pub fn kind_at(infos: &[hb_glyph_info_t], place: usize) -> u8 {
 ///
 /// # Proved
 ///
-/// That it returns.
+/// ```text
+/// ensures { result.now ≡ items_between range.now.start range.now.end infos.now }
+/// ```
 #[inline]
 pub fn syllable<'a>(infos: &'a [hb_glyph_info_t], range: &Range<usize>) -> &'a [hb_glyph_info_t] {
-    infos.get(range.start..range.end).unwrap_or(&[])
+    match infos.get(range.start..range.end) {
+        Some(items) => items,
+        None => &[],
+    }
 }
 
 /// A range; one of nothing where it does not lie in a list of so many items.

@@ -12,13 +12,6 @@ const BELOW: u16 = 220;
 
 const ABOVE: u16 = 230;
 
-/// Neighbouring items: from a place to behind another.
-#[derive(Clone, Copy, Debug)]
-struct Run {
-    start: usize,
-    end: usize,
-}
-
 /// Puts modifier combining marks before the other marks of their letter, those below and then those
 /// above. They get classes that come first too.
 ///
@@ -29,12 +22,16 @@ struct Run {
 /// # Proved
 ///
 /// ```text
+/// ensures is { buffer.new ≡ arabic.marks_reordered start end buffer.old }
 /// ensures closed { buffer.new.have_output ≡ false }
 /// ensures keeps { KeepsClusters buffer.old buffer.new }
 /// ```
 #[inline]
 pub fn reorder_marks(buffer: &mut hb_buffer_t, start: usize, end: usize) {
     debug_assert!(!buffer.have_output());
+    if start > end || end > buffer.len() {
+        return;
+    }
     let behind = move_marks(buffer, start, end, BELOW, CCC22);
     move_marks(buffer, behind, end, ABOVE, CCC26);
 }
@@ -44,7 +41,9 @@ pub fn reorder_marks(buffer: &mut hb_buffer_t, start: usize, end: usize) {
 ///
 /// # Requires
 ///
-/// - `buffer.old.have_output ≡ false`
+/// - `closed: buffer.old.have_output ≡ false`
+/// - `order: start ≤ end`
+/// - `within: end ≤ length buffer.old.input`
 fn move_marks(
     buffer: &mut hb_buffer_t,
     start: usize,
@@ -53,55 +52,123 @@ fn move_marks(
     new_class: u8,
 ) -> usize {
     debug_assert!(!buffer.have_output());
-    match modifier_marks(buffer.info(), start, end, class) {
-        Some(run) if start <= run.start && run.start <= run.end && run.end <= buffer.len() => {
-            let behind = start + (run.end - run.start);
-            merge(buffer, start, run.end);
-            move_back(buffer, start, run.start, run.end);
-            set_classes(buffer, start, behind, new_class);
-            behind
-        }
-        _ => start,
+    debug_assert!(start <= end);
+    debug_assert!(end <= buffer.info().len());
+    let first = modifiers_start(buffer.info(), start, end, class);
+    let last = modifiers_end(buffer.info(), first, end, class);
+    put_if_any(buffer, start, first, last, new_class);
+    start + (last - first)
+}
+
+/// Puts the marks from `first` to `last` before those from `start` on, with another class, if there are
+/// any.
+///
+/// # Requires
+///
+/// - `closed: buffer.old.have_output ≡ false`
+/// - `order: start ≤ first`
+/// - `within: last ≤ length buffer.old.input`
+fn put_if_any(buffer: &mut hb_buffer_t, start: usize, first: usize, last: usize, class: u8) {
+    debug_assert!(!buffer.have_output());
+    debug_assert!(start <= first);
+    debug_assert!(last <= buffer.info().len());
+    if first < last {
+        put_first(buffer, start, first, last, class);
     }
 }
 
-/// The modifier combining marks that are the first of their class, from `start` to `end`.
-fn modifier_marks(infos: &[hb_glyph_info_t], start: usize, end: usize, class: u16) -> Option<Run> {
-    let marks = infos.get(start..end)?;
-    let first = marks
-        .iter()
-        .position(|mark| modified_combining_class(mark) >= class)?;
-    let mut count = 0usize;
-    for mark in marks.iter().skip(first) {
-        if modified_combining_class(mark) != class || !is_modifier_mark(mark.glyph_id) {
-            break;
-        }
-        count = count.saturating_add(1);
+/// Puts the marks from `first` to `last` before those from `start` on, in one cluster, with another
+/// class.
+///
+/// # Requires
+///
+/// - `closed: buffer.old.have_output ≡ false`
+/// - `order: start ≤ first`
+/// - `ends: first ≤ last`
+/// - `within: last ≤ length buffer.old.input`
+fn put_first(buffer: &mut hb_buffer_t, start: usize, first: usize, last: usize, class: u8) {
+    debug_assert!(!buffer.have_output());
+    debug_assert!(start <= first);
+    debug_assert!(first <= last);
+    debug_assert!(last <= buffer.info().len());
+    merge(buffer, start, last);
+    move_back(buffer, start, first, last);
+    set_classes(buffer, start, start + (last - first), class);
+}
+
+/// Where the first marks of a class begin, of those from `start` to `end`, which are in the order of
+/// their classes.
+///
+/// # Requires
+///
+/// - `order: start ≤ end`
+/// - `within: end ≤ length infos.now`
+fn modifiers_start(infos: &[hb_glyph_info_t], start: usize, end: usize, class: u16) -> usize {
+    debug_assert!(start <= end);
+    debug_assert!(end <= infos.len());
+    let mut place = start;
+    while place < end && is_below(&infos[place], class) {
+        place += 1;
     }
-    if count == 0 {
-        return None;
+    place
+}
+
+/// Where the modifier combining marks of a class end that begin at `start`.
+///
+/// # Requires
+///
+/// - `order: start ≤ end`
+/// - `within: end ≤ length infos.now`
+fn modifiers_end(infos: &[hb_glyph_info_t], start: usize, end: usize, class: u16) -> usize {
+    debug_assert!(start <= end);
+    debug_assert!(end <= infos.len());
+    let mut place = start;
+    while place < end && is_modifier_of(&infos[place], class) {
+        place += 1;
     }
-    let start = start.saturating_add(first);
-    Some(Run {
-        start,
-        end: start.saturating_add(count),
-    })
+    place
+}
+
+/// Whether the mark comes before those of a class.
+fn is_below(mark: &hb_glyph_info_t, class: u16) -> bool {
+    modified_combining_class(mark) < class
+}
+
+/// Whether the mark is a modifier combining mark of a class.
+fn is_modifier_of(mark: &hb_glyph_info_t, class: u16) -> bool {
+    modified_combining_class(mark) == class && is_modifier_mark(mark.glyph_id)
 }
 
 /// Gives the marks from `start` to `end` another class.
 ///
 /// # Requires
 ///
-/// - `buffer.old.have_output ≡ false`
+/// - `closed: buffer.old.have_output ≡ false`
+/// - `order: start ≤ end`
+/// - `within: end ≤ length buffer.old.input`
 fn set_classes(buffer: &mut hb_buffer_t, start: usize, end: usize, class: u8) {
     debug_assert!(!buffer.have_output());
+    debug_assert!(start <= end);
+    debug_assert!(end <= buffer.info().len());
     set_classes_of(buffer.info_slice_mut(), start, end, class);
 }
 
-/// Gives these marks another class.
+/// Gives these of the marks another class.
+///
+/// # Requires
+///
+/// - `order: start ≤ end`
+/// - `within: end ≤ length infos.old`
 fn set_classes_of(infos: &mut [hb_glyph_info_t], start: usize, end: usize, class: u8) {
-    for i in start..end.min(infos.len()) {
-        set_modified_combining_class(&mut infos[i], u16::from(class));
+    debug_assert!(start <= end);
+    debug_assert!(end <= infos.len());
+    set_class_of_all(&mut infos[start..end], class);
+}
+
+/// Gives each mark another class.
+fn set_class_of_all(marks: &mut [hb_glyph_info_t], class: u8) {
+    for mark in marks.iter_mut() {
+        set_modified_combining_class(mark, u16::from(class));
     }
 }
 

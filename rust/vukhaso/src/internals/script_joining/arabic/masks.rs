@@ -55,12 +55,17 @@ fn set_forms_in(buffer: &mut hb_buffer_t, before: JoiningType, behind: JoiningTy
 /// The type of the first of these characters that is not transparent.
 fn first_type(characters: &[char]) -> Option<JoiningType> {
     for character in characters {
-        let kind = joining_type(*character as u32, is_transparent(*character));
+        let kind = type_of(*character);
         if kind != Transparent {
             return Some(kind);
         }
     }
     None
+}
+
+/// The type of a character.
+fn type_of(character: char) -> JoiningType {
+    joining_type(character as u32, is_transparent(character))
 }
 
 /// Whether letters join across the character, if Unicode does not list how it joins.
@@ -82,6 +87,7 @@ fn is_transparent(character: char) -> bool {
 /// # Proved
 ///
 /// ```text
+/// ensures is { buffer.new ≡ record buffer.old { input = selectors_formed buffer.old.input } }
 /// ensures closed { buffer.new.have_output ≡ false }
 /// ensures keeps { KeepsClusters buffer.old buffer.new }
 /// ```
@@ -94,9 +100,26 @@ pub fn form_variation_selectors(buffer: &mut hb_buffer_t) {
 /// Does that with these items.
 fn form_selectors(infos: &mut [hb_glyph_info_t]) {
     for i in 1..infos.len() {
-        if matches!(infos[i].glyph_id, 0x180B..=0x180D | 0x180F) {
-            let byte = shaper_byte(&infos[i - 1]);
-            set_shaper_byte(&mut infos[i], byte);
-        }
+        form_selector(infos, i);
+    }
+}
+
+/// Lets a Mongolian variation selector keep the form of the item before it.
+///
+/// # Requires
+///
+/// - `behind: 0 < place`
+/// - `within: place < length infos.old`
+fn form_selector(infos: &mut [hb_glyph_info_t], place: usize) {
+    debug_assert!(0 < place);
+    debug_assert!(place < infos.len());
+    let form = shaper_byte(&infos[place - 1]);
+    keep_form(&mut infos[place], form);
+}
+
+/// Lets the item keep a form, if it is such a selector.
+fn keep_form(info: &mut hb_glyph_info_t, form: u8) {
+    if matches!(info.glyph_id, 0x180B..=0x180D | 0x180F) {
+        set_shaper_byte(info, form);
     }
 }

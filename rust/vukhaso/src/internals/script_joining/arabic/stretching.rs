@@ -29,42 +29,68 @@ struct Stretched {
 /// # Proved
 ///
 /// ```text
+/// ensures is { buffer.new ≡ arabic.pieces_recorded buffer.old }
 /// ensures closed { buffer.new.have_output ≡ false }
 /// ensures keeps { KeepsClusters buffer.old buffer.new }
 /// ```
 #[inline]
 pub fn record_pieces(buffer: &mut hb_buffer_t) {
     debug_assert!(!buffer.have_output());
-    if record_in(buffer) {
-        buffer.scratch_flags = buffer.scratch_flags | HB_BUFFER_SCRATCH_FLAG_SHAPER0;
-    }
+    let has_pieces = has_pieces(buffer.info());
+    record_in(buffer);
+    note_pieces(buffer, has_pieces);
 }
 
-/// Whether there are pieces; each keeps whether it is repeated.
+/// Remembers that the text has pieces, if it has.
 ///
 /// # Requires
 ///
 /// - `buffer.old.have_output ≡ false`
-fn record_in(buffer: &mut hb_buffer_t) -> bool {
+fn note_pieces(buffer: &mut hb_buffer_t, has_pieces: bool) {
     debug_assert!(!buffer.have_output());
-    record_all(buffer.info_slice_mut())
+    if has_pieces {
+        buffer.scratch_flags = buffer.scratch_flags | HB_BUFFER_SCRATCH_FLAG_SHAPER0;
+    }
 }
 
-/// Whether there are pieces among these items.
-fn record_all(infos: &mut [hb_glyph_info_t]) -> bool {
-    let mut has_pieces = false;
-    for i in 0..infos.len() {
-        if infos[i].glyph_props() & GlyphPropsFlags::MULTIPLIED.bits() != 0 {
-            let byte = if component(&infos[i]) % 2 == 1 {
-                REPEATING
-            } else {
-                FIXED
-            };
-            set_shaper_byte(&mut infos[i], byte);
-            has_pieces = true;
-        }
+/// Lets each piece of a buffer keep whether it is repeated.
+///
+/// # Requires
+///
+/// - `buffer.old.have_output ≡ false`
+fn record_in(buffer: &mut hb_buffer_t) {
+    debug_assert!(!buffer.have_output());
+    record_all(buffer.info_slice_mut());
+}
+
+/// Whether there are pieces.
+fn has_pieces(infos: &[hb_glyph_info_t]) -> bool {
+    infos.iter().any(|info| is_multiplied(info))
+}
+
+/// Lets each piece keep whether it is repeated.
+fn record_all(infos: &mut [hb_glyph_info_t]) {
+    for info in infos.iter_mut() {
+        record_piece(info);
     }
-    has_pieces
+}
+
+/// Lets an item keep whether it is repeated, if it is a piece.
+fn record_piece(info: &mut hb_glyph_info_t) {
+    if is_multiplied(info) {
+        let number = piece_number(component(info));
+        set_shaper_byte(info, number);
+    }
+}
+
+/// The number that a piece keeps: each second one is repeated.
+fn piece_number(component: u8) -> u8 {
+    if component % 2 == 1 { REPEATING } else { FIXED }
+}
+
+/// Whether a lookup made the glyph of one, with others.
+fn is_multiplied(info: &hb_glyph_info_t) -> bool {
+    info.glyph_props() & GlyphPropsFlags::MULTIPLIED.bits() != 0
 }
 
 /// Which of the glyphs that a lookup made of one this is, from 0 on.

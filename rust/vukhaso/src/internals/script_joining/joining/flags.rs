@@ -80,23 +80,35 @@ pub(crate) fn flag_joins(
         let own = kind_at(buffer.info(), i);
         if own != Transparent {
             flag_join(buffer, &last, own, i + 1);
-            let is_formed = !last.heeds_next && heeds_previous(last.kind, own);
-            last = LastLetter {
-                place: Some(i),
-                kind: own,
-                heeds_next: heeds_next(last.kind, own),
-                formed_by: if is_formed { last.place } else { None },
-            };
+            last = letter_behind(&last, own, i);
         }
     }
     flag_end(buffer, &last, behind);
 }
 
+/// The letter of a type at a place, behind the last one.
+fn letter_behind(last: &LastLetter, own: JoiningType, place: usize) -> LastLetter {
+    let letter = LastLetter {
+        place: Some(place),
+        kind: own,
+        heeds_next: heeds_next(last.kind, own),
+        formed_by: None,
+    };
+    if last.heeds_next || !heeds_previous(last.kind, own) {
+        return letter;
+    }
+    LastLetter {
+        formed_by: last.place,
+        ..letter
+    }
+}
+
 /// The type of the item at a place.
 fn kind_at(infos: &[hb_glyph_info_t], place: usize) -> JoiningType {
-    match infos.get(place) {
-        Some(info) => kind(info),
-        None => NonJoining,
+    if place < infos.len() {
+        kind(&infos[place])
+    } else {
+        NonJoining
     }
 }
 
@@ -107,14 +119,32 @@ fn kind_at(infos: &[hb_glyph_info_t], place: usize) -> JoiningType {
 /// - `buffer.old.have_output ≡ false`
 fn flag_join(buffer: &mut hb_buffer_t, last: &LastLetter, own: JoiningType, end: usize) {
     debug_assert!(!buffer.have_output());
-    flag_formed(buffer, last, own);
-    let Some(start) = last.place else {
-        if own.joins_previous() {
-            buffer.unsafe_to_concat_from_outbuffer(Some(0), Some(end));
+    flag_formed(buffer, last.formed_by, last.place, own);
+    flag_behind(buffer, last.place, last.heeds_next, own, end);
+}
+
+/// Flags the place between the last letter, or the beginning of the text, and a letter that ends at a
+/// place.
+///
+/// # Requires
+///
+/// - `buffer.old.have_output ≡ false`
+fn flag_behind(
+    buffer: &mut hb_buffer_t,
+    place: Option<usize>,
+    is_heeded: bool,
+    own: JoiningType,
+    end: usize,
+) {
+    debug_assert!(!buffer.have_output());
+    match place {
+        Some(start) => flag_between(buffer, tie_of(is_heeded, own), start, end),
+        None => {
+            if own.joins_previous() {
+                buffer.unsafe_to_concat_from_outbuffer(Some(0), Some(end));
+            }
         }
-        return;
-    };
-    flag_between(buffer, tie_of(last.heeds_next, own), start, end);
+    }
 }
 
 /// Flags the end of the text: its last letter may have its form by the letter before it, and heed the
@@ -125,14 +155,34 @@ fn flag_join(buffer: &mut hb_buffer_t, last: &LastLetter, own: JoiningType, end:
 /// - `buffer.old.have_output ≡ false`
 fn flag_end(buffer: &mut hb_buffer_t, last: &LastLetter, behind: Option<JoiningType>) {
     debug_assert!(!buffer.have_output());
-    flag_formed(buffer, last, behind.unwrap_or(NonJoining));
-    if let Some(start) = last.place {
-        if let Some(own) = behind {
-            if last.heeds_next {
-                let end = buffer.len();
-                flag_between(buffer, tie_of(true, own), start, end);
+    let next = behind.unwrap_or(NonJoining);
+    flag_formed(buffer, last.formed_by, last.place, next);
+    flag_before(buffer, last.place, last.heeds_next, behind);
+}
+
+/// Flags the text from its last letter on, if that heeds the letter behind it, and one is known.
+///
+/// # Requires
+///
+/// - `buffer.old.have_output ≡ false`
+fn flag_before(
+    buffer: &mut hb_buffer_t,
+    at: Option<usize>,
+    heeds: bool,
+    next: Option<JoiningType>,
+) {
+    debug_assert!(!buffer.have_output());
+    match at {
+        Some(start) => match next {
+            Some(own) => {
+                if heeds {
+                    let end = buffer.len();
+                    flag_between(buffer, tie_of(true, own), start, end);
+                }
             }
-        }
+            None => {}
+        },
+        None => {}
     }
 }
 
@@ -142,18 +192,36 @@ fn flag_end(buffer: &mut hb_buffer_t, last: &LastLetter, behind: Option<JoiningT
 /// # Requires
 ///
 /// - `buffer.old.have_output ≡ false`
-fn flag_formed(buffer: &mut hb_buffer_t, last: &LastLetter, next: JoiningType) {
+fn flag_formed(
+    buffer: &mut hb_buffer_t,
+    from: Option<usize>,
+    at: Option<usize>,
+    next: JoiningType,
+) {
     debug_assert!(!buffer.have_output());
-    if let Some(from) = last.formed_by {
-        if let Some(place) = last.place {
-            if from <= place && place < buffer.len() && !next.joins_previous() {
-                buffer.unsafe_to_break(Some(from), Some(place + 1));
-            }
-        }
+    match from {
+        Some(from) => match at {
+            Some(place) => keep_formed(buffer, from, place, next),
+            None => {}
+        },
+        None => {}
     }
 }
 
-/// Flags the glyphs from a letter to the end of the next.
+/// Flags what lies between a letter and the one that it has its form by, unless the next one joins to
+/// it.
+///
+/// # Requires
+///
+/// - `buffer.old.have_output ≡ false`
+fn keep_formed(buffer: &mut hb_buffer_t, from: usize, place: usize, next: JoiningType) {
+    debug_assert!(!buffer.have_output());
+    if from <= place && place < buffer.len() && !next.joins_previous() {
+        buffer.unsafe_to_break(Some(from), Some(place + 1));
+    }
+}
+
+/// Flags the glyphs from a letter to the end of the next, if both are in the text.
 ///
 /// # Requires
 ///

@@ -10,10 +10,15 @@ use crate::script_joining::joining::kind::{JoiningType, joining_type};
 
 /// Lets each item keep the type of its character.
 pub(crate) fn set_types(infos: &mut [hb_glyph_info_t]) {
-    for i in 0..infos.len() {
-        let kind = joining_type(infos[i].glyph_id, is_mark_or_format(&infos[i]));
-        set_shaper_byte(&mut infos[i], kind.number());
+    for info in infos.iter_mut() {
+        set_type(info);
     }
+}
+
+/// Lets an item keep the type of its character.
+fn set_type(info: &mut hb_glyph_info_t) {
+    let kind = joining_type(info.glyph_id, is_mark_or_format(info));
+    set_shaper_byte(info, kind.number());
 }
 
 /// The type that an item keeps.

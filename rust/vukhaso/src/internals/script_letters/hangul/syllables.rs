@@ -83,15 +83,31 @@ pub(crate) fn unsafe_length(step: Step, first: u32, second: u32, third: u32) -> 
     if is_leading(first) && is_vowel(second) {
         return if is_trailing(third) { 3 } else { 2 };
     }
-    match (decomposed(first), step) {
-        (Some((leading, vowel, 0)), Step::Decompose(_, _)) if is_trailing(second) => {
-            if composed(leading, vowel, second).is_some() {
-                2
-            } else {
-                0
-            }
-        }
-        (Some((_, _, 0)), Step::Keep | Step::Pass) if is_trailing(second) => 2,
-        _ => 0,
+    match decomposed(first) {
+        Some(jamo) => unsafe_syllable(step, jamo, second),
+        None => 0,
+    }
+}
+
+/// The same for a syllable, by the character behind it.
+fn unsafe_syllable(step: Step, jamo: (u32, u32, u32), next: u32) -> usize {
+    let (_, _, trailing) = jamo;
+    if trailing == 0 && is_trailing(next) {
+        unsafe_before_trailing(step, jamo, next)
+    } else {
+        0
+    }
+}
+
+/// The same for a syllable without a trailing consonant, and one that follows.
+fn unsafe_before_trailing(step: Step, jamo: (u32, u32, u32), next: u32) -> usize {
+    let (leading, vowel, _) = jamo;
+    match step {
+        Step::Decompose(_, _) => match composed(leading, vowel, next) {
+            Some(_) => 2,
+            None => 0,
+        },
+        Step::Keep | Step::Pass => 2,
+        Step::Compose(_, _) | Step::Jamo(_) => 0,
     }
 }

@@ -114,9 +114,10 @@ fn read_syllable<F: FontGlyphs>(
 
 /// The character at a place; 0 where there is none.
 fn character_at(infos: &[hb_glyph_info_t], place: usize) -> u32 {
-    match infos.get(place) {
-        Some(info) => info.glyph_id,
-        None => 0,
+    if place < infos.len() {
+        infos[place].glyph_id
+    } else {
+        0
     }
 }
 
@@ -129,7 +130,7 @@ fn flag_unsafe(buffer: &mut hb_buffer_t, count: usize) {
     debug_assert!(buffer.have_output());
     let start = buffer.idx();
     let end = buffer.len();
-    if count > 0 && start <= end && count <= end - start {
+    if count > 0 && count <= end - start {
         buffer.unsafe_to_break(Some(start), Some(start + count));
     }
 }
@@ -199,6 +200,16 @@ fn put_jamo(
 fn end_jamo(buffer: &mut hb_buffer_t, start: usize) {
     debug_assert!(buffer.have_output());
     number_jamo(buffer, start);
+    merge_jamo(buffer, start);
+}
+
+/// Puts the jamo that were put out from a place on into one cluster, where clusters are graphemes.
+///
+/// # Requires
+///
+/// - `buffer.old.have_output ≡ true`
+fn merge_jamo(buffer: &mut hb_buffer_t, start: usize) {
+    debug_assert!(buffer.have_output());
     let end = buffer.out_len();
     if buffer.cluster_level == HB_BUFFER_CLUSTER_LEVEL_MONOTONE_GRAPHEMES && start <= end {
         buffer.merge_out_clusters(start, end);
@@ -217,8 +228,16 @@ fn number_jamo(buffer: &mut hb_buffer_t, start: usize) {
 
 /// Does that with these items.
 fn number_all(infos: &mut [hb_glyph_info_t], start: usize) {
-    let behind = infos.len().saturating_sub(start).min(3);
-    for number in 0..behind {
-        set_shaper_byte(&mut infos[start + number], number as u8 + 1);
+    if start < infos.len() {
+        number_at(infos, start, 1);
+        number_at(infos, start + 1, 2);
+        number_at(infos, start + 2, 3);
+    }
+}
+
+/// Lets the jamo at a place keep a number, if there is one.
+fn number_at(infos: &mut [hb_glyph_info_t], place: usize, number: u8) {
+    if place < infos.len() {
+        set_shaper_byte(&mut infos[place], number);
     }
 }

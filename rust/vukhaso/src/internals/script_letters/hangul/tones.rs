@@ -35,12 +35,18 @@ pub(crate) fn read_tone<F: FontGlyphs>(
     if !is_allowed || !font.has_glyph(DOTTED_CIRCLE) {
         return buffer.next_glyph();
     }
-    let characters = if has_no_width(font, tone) {
+    let characters = on_circle(tone, has_no_width(font, tone));
+    buffer.replace_glyphs(1, 2, &characters)
+}
+
+/// A tone mark and its dotted circle: a mark without width stands behind that, and any other one before
+/// it.
+fn on_circle(tone: u32, has_no_width: bool) -> [u32; 2] {
+    if has_no_width {
         [DOTTED_CIRCLE, tone]
     } else {
         [tone, DOTTED_CIRCLE]
-    };
-    buffer.replace_glyphs(1, 2, &characters)
+    }
 }
 
 /// Reads a tone mark that stands behind a syllable, and moves it in front of that, if it is to be
@@ -67,10 +73,22 @@ fn read_after_syllable(
     if !buffer.next_glyph()? {
         return Ok(false);
     }
-    let end = buffer.out_len();
-    if is_moved && last.start < end {
-        merge_out(buffer, last.start, end);
-        move_out_back(buffer, last.start, end - 1, end);
+    if is_moved && last.start < buffer.out_len() {
+        move_tone(buffer, last.start);
     }
     Ok(true)
+}
+
+/// Moves the tone mark, which was put out last, in front of what was put out from `start` on.
+///
+/// # Requires
+///
+/// - `opened: buffer.old.have_output ≡ true`
+/// - `behind: start < length buffer.old.out`
+fn move_tone(buffer: &mut hb_buffer_t, start: usize) {
+    debug_assert!(buffer.have_output());
+    debug_assert!(start < buffer.out_len());
+    let end = buffer.out_len();
+    merge_out(buffer, start, end);
+    move_out_back(buffer, start, end - 1, end);
 }

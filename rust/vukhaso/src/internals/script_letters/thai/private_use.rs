@@ -96,7 +96,9 @@ impl Consonant {
         match self {
             Consonant::Ascending => Above::Ascender,
             Consonant::Not => Above::Full,
-            _ => Above::Free,
+            Consonant::Plain | Consonant::RemovableDescender | Consonant::StrictDescender => {
+                Above::Free
+            }
         }
     }
 
@@ -125,15 +127,20 @@ impl Mark {
 impl Above {
     /// What is done with the next mark, and what is above then.
     fn next(self, mark: Mark) -> (Action, Above) {
-        match (self, mark) {
-            (_, Mark::BelowVowel) => (Action::Keep, self),
-            (Above::Free, Mark::AboveVowel) => (Action::Keep, Above::Full),
-            (Above::Free, Mark::Tone) => (Action::Down, Above::Full),
-            (Above::Ascender, Mark::AboveVowel) => (Action::Left, Above::AscenderAndMark),
-            (Above::Ascender, Mark::Tone) => (Action::DownLeft, Above::AscenderAndMark),
-            (Above::AscenderAndMark, Mark::AboveVowel) => (Action::Keep, Above::Full),
-            (Above::AscenderAndMark, Mark::Tone) => (Action::Left, Above::Full),
-            (Above::Full, _) => (Action::Keep, Above::Full),
+        match mark {
+            Mark::BelowVowel => (Action::Keep, self),
+            Mark::AboveVowel => match self {
+                Above::Free => (Action::Keep, Above::Full),
+                Above::Ascender => (Action::Left, Above::AscenderAndMark),
+                Above::AscenderAndMark => (Action::Keep, Above::Full),
+                Above::Full => (Action::Keep, Above::Full),
+            },
+            Mark::Tone => match self {
+                Above::Free => (Action::Down, Above::Full),
+                Above::Ascender => (Action::DownLeft, Above::AscenderAndMark),
+                Above::AscenderAndMark => (Action::Left, Above::Full),
+                Above::Full => (Action::Keep, Above::Full),
+            },
         }
     }
 }
@@ -141,11 +148,13 @@ impl Above {
 impl Below {
     /// What is done with the next mark, and what is below then.
     fn next(self, mark: Mark) -> (Action, Below) {
-        match (self, mark) {
-            (Below::Free, Mark::BelowVowel) => (Action::Keep, Below::Taken),
-            (Below::Removable, Mark::BelowVowel) => (Action::RemoveDescender, Below::Taken),
-            (Below::Taken, Mark::BelowVowel) => (Action::Down, Below::Taken),
-            _ => (Action::Keep, self),
+        match mark {
+            Mark::AboveVowel | Mark::Tone => (Action::Keep, self),
+            Mark::BelowVowel => match self {
+                Below::Free => (Action::Keep, Below::Taken),
+                Below::Removable => (Action::RemoveDescender, Below::Taken),
+                Below::Taken => (Action::Down, Below::Taken),
+            },
         }
     }
 }
@@ -167,7 +176,15 @@ impl Around {
         let (below, next_below) = self.below.next(mark);
         self.above = next_above;
         self.below = next_below;
-        if above == Action::Keep { below } else { above }
+        chosen(above, below)
+    }
+}
+
+/// What is done above, or else what is done below: one of both is nothing.
+fn chosen(above: Action, below: Action) -> Action {
+    match above {
+        Action::Keep => below,
+        Action::Down | Action::Left | Action::DownLeft | Action::RemoveDescender => above,
     }
 }
 
@@ -216,22 +233,37 @@ fn shape_mark<F: FontGlyphs>(
     font: &F,
 ) {
     debug_assert!(!buffer.have_output());
+    keep_to_base(buffer, base, mark);
+    let place = place_of(action, base, mark);
+    replace_at(buffer, place, action, font);
+}
+
+/// Flags a base and the marks before a place as unsafe to break.
+///
+/// # Requires
+///
+/// - `buffer.old.have_output ≡ false`
+fn keep_to_base(buffer: &mut hb_buffer_t, base: usize, mark: usize) {
+    debug_assert!(!buffer.have_output());
     if base <= mark && mark <= buffer.len() {
         buffer.unsafe_to_break(Some(base), Some(mark));
     }
-    let place = if action == Action::RemoveDescender {
-        base
-    } else {
-        mark
-    };
-    replace_at(buffer, place, action, font);
+}
+
+/// Where something is done: at the base, which loses its descender, or at the mark.
+fn place_of(action: Action, base: usize, mark: usize) -> usize {
+    match action {
+        Action::RemoveDescender => base,
+        Action::Keep | Action::Down | Action::Left | Action::DownLeft => mark,
+    }
 }
 
 /// The character at a place.
 fn character_at(infos: &[hb_glyph_info_t], place: usize) -> u32 {
-    match infos.get(place) {
-        Some(info) => info.glyph_id,
-        None => 0,
+    if place < infos.len() {
+        infos[place].glyph_id
+    } else {
+        0
     }
 }
 
@@ -253,21 +285,33 @@ fn replace_character<F: FontGlyphs>(
     font: &F,
 ) {
     if place < infos.len() {
-        if let Some(character) = private_use_of(font, action, infos[place].glyph_id) {
-            infos[place].glyph_id = character;
-        }
+        shape_character(&mut infos[place], action, font);
     }
+}
+
+/// Gives an item the character of the private use area that the font has for it.
+fn shape_character<F: FontGlyphs>(info: &mut hb_glyph_info_t, action: Action, font: &F) {
+    info.glyph_id = private_use_of(font, action, info.glyph_id).unwrap_or(info.glyph_id);
 }
 
 /// The character of the private use area that the font has for one that something is done with.
 fn private_use_of<F: FontGlyphs>(font: &F, action: Action, character: u32) -> Option<u32> {
-    let (windows, macintosh) = private_use(action, character)?;
-    if font.has_glyph(windows) {
-        Some(windows)
-    } else if font.has_glyph(macintosh) {
-        Some(macintosh)
-    } else {
-        None
+    one_of(font, private_use(action, character))
+}
+
+/// The first of two characters that the font has.
+fn one_of<F: FontGlyphs>(font: &F, forms: Option<(u32, u32)>) -> Option<u32> {
+    match forms {
+        Some((windows, macintosh)) => {
+            if font.has_glyph(windows) {
+                Some(windows)
+            } else if font.has_glyph(macintosh) {
+                Some(macintosh)
+            } else {
+                None
+            }
+        }
+        None => None,
     }
 }
 

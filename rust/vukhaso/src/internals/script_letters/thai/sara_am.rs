@@ -162,10 +162,55 @@ fn move_ring(buffer: &mut hb_buffer_t) {
         return;
     }
     let start = run_start(buffer.out_info(), end - 2);
+    place_ring(buffer, start, end);
+}
+
+/// Puts the ring, which is the last but one of `end` glyphs, before the marks from `start` on, if there
+/// are any.
+///
+/// # Requires
+///
+/// - `opened: buffer.old.have_output ≡ true`
+/// - `order: start + 2 ≤ end`
+/// - `last: end ≡ length buffer.old.out`
+fn place_ring(buffer: &mut hb_buffer_t, start: usize, end: usize) {
+    debug_assert!(buffer.have_output());
+    debug_assert!(start + 2 <= end);
+    debug_assert!(end == buffer.out_len());
     if start + 2 < end {
-        merge_out(buffer, start, end);
-        move_out_back(buffer, start, end - 2, end - 1);
-    } else if start > 0 && buffer.cluster_level == HB_BUFFER_CLUSTER_LEVEL_MONOTONE_GRAPHEMES {
+        put_before_marks(buffer, start, end);
+    } else {
+        merge_ring(buffer, start, end);
+    }
+}
+
+/// Puts the ring, which is the last but one of `end` glyphs, before the marks from `start` on.
+///
+/// # Requires
+///
+/// - `opened: buffer.old.have_output ≡ true`
+/// - `order: start + 2 < end`
+/// - `last: end ≡ length buffer.old.out`
+fn put_before_marks(buffer: &mut hb_buffer_t, start: usize, end: usize) {
+    debug_assert!(buffer.have_output());
+    debug_assert!(start + 2 < end);
+    debug_assert!(end == buffer.out_len());
+    merge_out(buffer, start, end);
+    move_out_back(buffer, start, end - 2, end - 1);
+}
+
+/// Puts both parts into one cluster with the character before them, where clusters are graphemes.
+///
+/// # Requires
+///
+/// - `opened: buffer.old.have_output ≡ true`
+/// - `order: start ≤ end`
+/// - `last: end ≡ length buffer.old.out`
+fn merge_ring(buffer: &mut hb_buffer_t, start: usize, end: usize) {
+    debug_assert!(buffer.have_output());
+    debug_assert!(start <= end);
+    debug_assert!(end == buffer.out_len());
+    if start != 0 && buffer.cluster_level == HB_BUFFER_CLUSTER_LEVEL_MONOTONE_GRAPHEMES {
         buffer.merge_out_clusters(start - 1, end);
     }
 }

@@ -61,12 +61,26 @@ impl Position {
     ///
     /// # Proved
     ///
-    /// That it returns.
+    /// ```text
+    /// ensures { result ≡ position_of_number number }
+    /// ```
     #[inline]
     pub fn numbered(number: u8) -> Position {
         match POSITIONS.get(usize::from(number)) {
             Some(position) => *position,
             None => Position::End,
         }
+    }
+
+    /// Whether it is this one.
+    ///
+    /// # Proved
+    ///
+    /// ```text
+    /// ensures { result ≡ same_position self other }
+    /// ```
+    #[inline]
+    pub fn is(self, other: Position) -> bool {
+        self == other
     }
 }

@@ -14,10 +14,23 @@ use crate::script_syllables::category::rows::ROWS;
 /// That it returns.
 #[inline]
 pub fn category_of(character: u32) -> (Category, Position) {
-    match row_at(&ROWS, |row| {
-        range_order(row.0 as u32, row.1 as u32, character)
-    }) {
-        Some(row) => (row.2, row.3),
+    match row_of(&ROWS, character) {
+        Some(found) => found,
         None => (Category::Other, Position::End),
     }
+}
+
+/// What the row that holds a character has.
+///
+/// # Requires
+///
+/// - `IsTrue (are_apart rows.now)`
+fn row_of(
+    rows: &[(char, char, Category, Position)],
+    character: u32,
+) -> Option<(Category, Position)> {
+    row_at(rows, |row| {
+        range_order(row.0 as u32, row.1 as u32, character)
+    })
+    .map(|row| (row.2, row.3))
 }
