@@ -1,3 +1,4 @@
+pub mod Base
 pub mod Composition
 pub mod IndicFeatures
 pub mod Scripts

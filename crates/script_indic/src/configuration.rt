@@ -1,5 +1,8 @@
 //! What differs from script to script.
 
+ghost use Rattle.std.specs.Prelude.{◌≡◌};
+ghost use Rattle.script_indic.specs.Scripts as scripts;
+
 use rb_common::{Script, script};
 
 /// Where a reph goes.
@@ -45,7 +48,9 @@ pub struct IndicConfiguration {
 
 impl IndicConfiguration {
     /// The configuration of a script.
-    pub fn of(script: Option<Script>) -> IndicConfiguration {
+    pub fn of(script: Option<Script>) -> IndicConfiguration
+        ensures { result ≡ scripts.configuration script }
+    {
         let Some(script) = script else {
             return default_configuration();
         };
@@ -75,7 +80,9 @@ impl IndicConfiguration {
 }
 
 /// The configuration of a script of which RA and a halant make a reph.
-fn implicit(virama: char, reph_position: RephPosition) -> IndicConfiguration {
+fn implicit(virama: char, reph_position: RephPosition) -> IndicConfiguration
+    ensures { result ≡ scripts.implicit virama reph_position }
+{
     IndicConfiguration {
         has_old_spec: true,
         virama: Some(virama),
@@ -86,7 +93,9 @@ fn implicit(virama: char, reph_position: RephPosition) -> IndicConfiguration {
 }
 
 /// The configuration of any other script.
-fn default_configuration() -> IndicConfiguration {
+fn default_configuration() -> IndicConfiguration
+    ensures { result ≡ scripts.default_configuration }
+{
     IndicConfiguration {
         has_old_spec: false,
         virama: None,

@@ -3,13 +3,14 @@
 ghost use Rattle.std.specs.Prelude.{◌≡◌, ◌++◌, IfOk};
 ghost use Rattle.ot_map.specs.Asked.{Asks};
 ghost use Rattle.ot_map.specs.Pauses.{HasSamePauses};
-ghost use Rattle.script_indic.specs.IndicFeatures.{indic_features, indic_overrides};
+ghost use Rattle.script_indic.specs.IndicFeatures.{AreForms, AreMasks, HasLookups, indic_features, indic_overrides};
+ghost use Rattle.script_indic.specs.Scripts.{indic_plan};
 ghost use Rattle.script_indic.specs.Stages.{indic_pauses};
 
 use crate::plan::{ConsonantForms, IndicMasks, IndicPlan};
 use ot_map::{FeatureFlags, LayoutPlan, Pause, PlanBuilder};
 use rb_common::{Script, Tag};
-use script_syllables::requests::{MANUAL_JOINERS, PER_SYLLABLE, add_all, add_in_stages};
+use script_syllables::requests::{MANUAL_JOINERS, PER_SYLLABLE, add_all, add_in_stages, one_mask};
 use std::alloc::AllocError;
 
 /// The basic features, each in a stage of its own, and whether every glyph has it.
@@ -68,16 +69,19 @@ pub fn override_features(builder: &mut PlanBuilder) -> Result<(), AllocError>
 }
 
 /// The plan for a script and the features of a font.
-pub fn plan(script: Option<Script>, layout: &LayoutPlan) -> IndicPlan {
-    let mask = |name| layout.one_mask(Tag::from_bytes(name));
+pub fn plan(script: Option<Script>, layout: &LayoutPlan) -> IndicPlan
+    ensures is { result ≡ indic_plan script layout.now.gsub_script.0 result.masks result.forms }
+    ensures masks { AreMasks layout.now result.masks }
+    ensures forms { AreForms layout.now result.forms }
+{
     let masks = IndicMasks {
-        rphf: mask(b"rphf"),
-        pref: mask(b"pref"),
-        blwf: mask(b"blwf"),
-        abvf: mask(b"abvf"),
-        half: mask(b"half"),
-        pstf: mask(b"pstf"),
-        init: mask(b"init"),
+        rphf: one_mask(layout, b"rphf"),
+        pref: one_mask(layout, b"pref"),
+        blwf: one_mask(layout, b"blwf"),
+        abvf: one_mask(layout, b"abvf"),
+        half: one_mask(layout, b"half"),
+        pstf: one_mask(layout, b"pstf"),
+        init: one_mask(layout, b"init"),
     };
     let forms = ConsonantForms {
         pref: has_lookups(layout, b"pref"),
@@ -89,7 +93,9 @@ pub fn plan(script: Option<Script>, layout: &LayoutPlan) -> IndicPlan {
 }
 
 /// Whether the font has lookups for a feature.
-fn has_lookups(layout: &LayoutPlan, name: &[u8; 4]) -> bool {
+fn has_lookups(layout: &LayoutPlan, name: &[u8; 4]) -> bool
+    ensures { HasLookups layout.now name.now result }
+{
     let places = layout.stage_places(Tag::from_bytes(name));
     places.start < places.end
 }

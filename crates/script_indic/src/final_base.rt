@@ -4,10 +4,12 @@ ghost use Rattle.std.specs.Prelude.{◌≡◌};
 ghost use Rattle.glyph_lists.specs.Clusters.{clusters};
 
 use crate::initial_order::place_at;
-use crate::item::{behind_joiners, is_consonant, is_halant, is_one};
+use crate::item::is_consonant;
 use crate::plan::IndicPlan;
 use rb_common::script;
-use script_syllables::item::{is_substituted, is_whole_ligature, position};
+use script_syllables::item::{
+    behind_joiners, is_halant, is_one, is_substituted, is_whole_ligature, position,
+};
 use script_syllables::{Category, Position};
 use shaping_buffer::hb_glyph_info_t;
 

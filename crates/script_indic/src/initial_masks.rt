@@ -3,11 +3,11 @@
 ghost use Rattle.std.specs.Prelude.{◌≡◌};
 ghost use Rattle.glyph_lists.specs.Clusters.{clusters};
 
-use crate::item::{is_consonant, is_joiner};
+use crate::item::is_consonant;
 use crate::plan::IndicPlan;
 use rb_common::script;
 use script_syllables::font::{FontForms, FormFeature};
-use script_syllables::item::{add_mask, category, position};
+use script_syllables::item::{add_mask, category, is_joiner, position};
 use script_syllables::{Category, Position};
 use shaping_buffer::hb_glyph_info_t;
 

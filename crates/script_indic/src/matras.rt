@@ -4,11 +4,11 @@ ghost use Rattle.std.specs.Prelude.{◌≡◌, false};
 ghost use Rattle.shaping_buffer.specs.KeepsClusters.{KeepsClusters};
 ghost use Rattle.script_syllables.specs.KeepsNumbers.{KeepsNumbers};
 
-use crate::item::{is_halant, is_matra_or_halant};
+use crate::item::is_matra_or_halant;
 use crate::plan::IndicPlan;
 use rb_common::script;
 use script_syllables::clusters::merge;
-use script_syllables::item::{category, position};
+use script_syllables::item::{category, is_halant, position};
 use script_syllables::moves::move_first;
 use script_syllables::syllables::syllable;
 use script_syllables::{Category, Position};

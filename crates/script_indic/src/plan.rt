@@ -4,6 +4,7 @@ ghost use Rattle.std.specs.Prelude.{◌≡◌, true, false, IfOk};
 ghost use Rattle.shaping_buffer.specs.KeepsClusters.{KeepsClusters};
 ghost use Rattle.script_syllables.specs.KeepsNumbers.{KeepsNumbers};
 ghost use Rattle.shaping_passes.specs.Refusals.{IsRefusal};
+ghost use Rattle.script_indic.specs.Scripts as scripts;
 
 use crate::configuration::IndicConfiguration;
 use crate::final_order::order_finally;
@@ -75,7 +76,9 @@ impl IndicPlan {
         gsub_script: Tag,
         masks: IndicMasks,
         forms: ConsonantForms,
-    ) -> IndicPlan {
+    ) -> IndicPlan
+        ensures { result ≡ scripts.indic_plan script gsub_script.0 masks forms }
+    {
         let configuration = IndicConfiguration::of(script);
         IndicPlan {
             script,
@@ -87,13 +90,20 @@ impl IndicPlan {
     }
 
     /// Whether a rule with context is not taken, where a font is asked for its forms.
-    pub fn wants_no_context(&self) -> bool {
+    pub fn wants_no_context(&self) -> bool
+        ensures { result ≡ scripts.wants_no_context self.now }
+    {
         !self.is_old_spec && !self.is(script::MALAYALAM)
     }
 
     /// Whether the text is of a script.
-    pub(crate) fn is(&self, script: Script) -> bool {
-        self.script == Some(script)
+    pub(crate) fn is(&self, script: Script) -> bool
+        ensures { result ≡ scripts.is_text_of script self.now.script }
+    {
+        match self.script {
+            Some(own) => own.tag().0 == script.tag().0,
+            None => false,
+        }
     }
 
     /// What is done at a pause of a text of an Indic script. `Ok(false)` where the text would become too long.

@@ -4,11 +4,11 @@ ghost use Rattle.std.specs.Prelude.{◌≡◌, false};
 ghost use Rattle.script_syllables.specs.KeepsNumbers.{KeepsNumbers};
 
 use crate::final_base::{FinalBase, masked_behind};
-use crate::item::{is_halant, is_joiner, is_matra_or_halant};
+use crate::item::is_matra_or_halant;
 use crate::plan::IndicPlan;
 use rb_common::script;
 use script_syllables::clusters::merge;
-use script_syllables::item::is_whole_ligature;
+use script_syllables::item::{is_halant, is_joiner, is_whole_ligature};
 use script_syllables::moves::move_last;
 use script_syllables::syllables::syllable;
 use shaping_buffer::{hb_buffer_t, hb_glyph_info_t};

@@ -9,14 +9,13 @@ ghost use Rattle.shaping_passes.specs.Refusals.{IsRefusal};
 use crate::base::{Base, find_base};
 use crate::initial_masks::{mask_pref, set_masks};
 use crate::initial_order::set_positions;
-use crate::item::{is_halant, is_one};
 use crate::plan::{BROKEN, ConsonantForms, IndicPlan};
 use crate::sorting::sort_syllable;
 use rb_common::script;
 use script_syllables::clusters::merge;
 use script_syllables::dotted_circle::{CircleKind, insert_dotted_circles};
 use script_syllables::font::{FontForms, FormFeature};
-use script_syllables::item::{position, set_position};
+use script_syllables::item::{is_halant, is_one, position, set_position};
 use script_syllables::moves::move_first;
 use script_syllables::syllables::{kind_at, syllable, within};
 use script_syllables::{Category, Position};
@@ -161,7 +160,9 @@ fn order_syllable<F: FontForms>(
     ensures keeps { KeepsNumbers buffer.old buffer.new }
 {
     put_joiner_first(buffer, range, plan);
-    let base = find_base(syllable(buffer.info(), range), plan, font);
+    let base = find_base(syllable(buffer.info(), range), plan, |glyphs| {
+        font.would_substitute(FormFeature::Rphf, glyphs)
+    });
     place_items(buffer, range, &base, plan);
     let base = sort_syllable(alloc, buffer, range, plan)?;
     mask_items(buffer, range, base, plan, font);

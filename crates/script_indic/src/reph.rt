@@ -4,10 +4,10 @@ ghost use Rattle.std.specs.Prelude.{◌≡◌, false};
 ghost use Rattle.script_syllables.specs.KeepsNumbers.{KeepsNumbers};
 
 use crate::configuration::RephPosition;
-use crate::item::{is_halant, is_joiner, is_matra};
+use crate::item::is_matra;
 use crate::plan::IndicPlan;
 use script_syllables::clusters::merge;
-use script_syllables::item::{category, is_whole_ligature, position};
+use script_syllables::item::{category, is_halant, is_joiner, is_whole_ligature, position};
 use script_syllables::moves::move_first;
 use script_syllables::syllables::syllable;
 use script_syllables::{Category, Position};

@@ -3,13 +3,15 @@
 ghost use Rattle.std.specs.Prelude.{◌≡◌, ◌++◌, IfOk};
 ghost use Rattle.ot_map.specs.Asked.{Asks};
 ghost use Rattle.ot_map.specs.Pauses.{HasSamePauses};
-ghost use Rattle.script_universal.specs.KhmerFeatures.{khmer_features, khmer_overrides};
+ghost use Rattle.script_universal.specs.KhmerFeatures.{IsKhmerPlan, khmer_features, khmer_overrides};
 ghost use Rattle.script_universal.specs.Stages.{khmer_pauses};
 
 use crate::khmer::plan::KhmerPlan;
 use ot_map::{FeatureFlags, LayoutPlan, Pause, PlanBuilder};
 use rb_common::Tag;
-use script_syllables::requests::{MANUAL_JOINERS, PER_SYLLABLE, PRESENTATION_FEATURES, add_all};
+use script_syllables::requests::{
+    MANUAL_JOINERS, PER_SYLLABLE, PRESENTATION_FEATURES, add_all, one_mask,
+};
 use std::alloc::AllocError;
 
 /// The basic features, all in one stage, and whether every glyph has it.
@@ -51,13 +53,14 @@ pub fn override_features(builder: &mut PlanBuilder) -> Result<(), AllocError>
 }
 
 /// The plan for the features of a font.
-pub fn plan(layout: &LayoutPlan) -> KhmerPlan {
-    let mask = |name| layout.one_mask(Tag::from_bytes(name));
+pub fn plan(layout: &LayoutPlan) -> KhmerPlan
+    ensures { IsKhmerPlan layout.now result }
+{
     KhmerPlan {
-        pref: mask(b"pref"),
-        blwf: mask(b"blwf"),
-        abvf: mask(b"abvf"),
-        pstf: mask(b"pstf"),
-        cfar: mask(b"cfar"),
+        pref: one_mask(layout, b"pref"),
+        blwf: one_mask(layout, b"blwf"),
+        abvf: one_mask(layout, b"abvf"),
+        pstf: one_mask(layout, b"pstf"),
+        cfar: one_mask(layout, b"cfar"),
     }
 }

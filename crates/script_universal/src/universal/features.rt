@@ -1,15 +1,17 @@
 //! The features that scripts of the universal shaper ask for, in their stages (OpenType, "Creating and supporting OpenType fonts for the
 //! Universal Shaping Engine").
 
-ghost use Rattle.std.specs.Prelude.{◌≡◌, ◌++◌, IfOk};
+ghost use Rattle.std.specs.Prelude.{◌≡◌, ◌==◌, ◌++◌, true, false, codes, IfOk, if◌then◌else◌};
 ghost use Rattle.ot_map.specs.Asked.{Asks};
 ghost use Rattle.script_universal.specs.Stages.{universal_pauses, universal_pauses_of_syllables, universal_pauses_of_records};
+ghost use Rattle.script_syllables.specs.SyllableFeatures.{IsOneMask};
+ghost use Rattle.script_universal.specs.Masks.{AreFormMasks, IsFormMask, no_forms};
 ghost use Rattle.script_universal.specs.UniversalFeatures.{reordering_features, syllable_features, universal_features};
 
 use crate::universal::plan::{FormMasks, UniversalPlan};
 use ot_map::{FeatureFlags, LayoutPlan, Pause, PlanBuilder};
 use rb_common::Tag;
-use script_syllables::requests::{MANUAL_JOINER, PER_SYLLABLE, add_all};
+use script_syllables::requests::{MANUAL_JOINER, PER_SYLLABLE, add_all, one_mask};
 use std::alloc::AllocError;
 
 /// The features of single letters, and whether every glyph has it.
@@ -42,6 +44,14 @@ const OTHER_FEATURES: [(&[u8; 4], bool); 5] = [
     (b"pres", true),
     (b"psts", true),
 ];
+
+/// No form.
+const NO_FORMS: FormMasks = FormMasks {
+    isol: 0,
+    init: 0,
+    medi: 0,
+    fina: 0,
+};
 
 /// An input passes over no joiner, and ends with its syllable.
 const WITHIN_SYLLABLE: FeatureFlags = FeatureFlags {
@@ -91,25 +101,47 @@ fn add_recorded_features(builder: &mut PlanBuilder) -> Result<(), AllocError>
 }
 
 /// The plan for the features of a font. `joins` says whether the letters of the script join by themselves.
-pub fn plan(joins: bool, layout: &LayoutPlan) -> UniversalPlan {
-    let forms = if joins {
-        FormMasks::default()
-    } else {
-        FormMasks {
-            isol: form_mask(layout, b"isol"),
-            init: form_mask(layout, b"init"),
-            medi: form_mask(layout, b"medi"),
-            fina: form_mask(layout, b"fina"),
-        }
-    };
+pub fn plan(joins: bool, layout: &LayoutPlan) -> UniversalPlan
+    ensures rephs { IsOneMask layout.now (codes "rphf") result.rphf }
+    ensures letters { joins ≡ true → result.forms ≡ no_forms }
+    ensures forms { joins ≡ false → AreFormMasks layout.now result.forms }
+{
+    let rphf = one_mask(layout, b"rphf");
+    if joins {
+        return UniversalPlan {
+            rphf,
+            forms: NO_FORMS,
+        };
+    }
     UniversalPlan {
-        rphf: layout.one_mask(Tag::from_bytes(b"rphf")),
-        forms,
+        rphf,
+        forms: form_masks(layout),
+    }
+}
+
+/// The masks of the forms of syllables.
+fn form_masks(layout: &LayoutPlan) -> FormMasks
+    ensures { AreFormMasks layout.now result }
+{
+    FormMasks {
+        isol: form_mask(layout, b"isol"),
+        init: form_mask(layout, b"init"),
+        medi: form_mask(layout, b"medi"),
+        fina: form_mask(layout, b"fina"),
     }
 }
 
 /// The mask of a form; 0 where every glyph has it.
-fn form_mask(layout: &LayoutPlan, name: &[u8; 4]) -> u32 {
-    let mask = layout.one_mask(Tag::from_bytes(name));
-    if mask == layout.global_mask { 0 } else { mask }
+fn form_mask(layout: &LayoutPlan, name: &[u8; 4]) -> u32
+    ensures { IsFormMask layout.now name.now result }
+{
+    let mask = one_mask(layout, name);
+    unless_global(mask, layout.global_mask)
+}
+
+/// A mask, unless it is that of every glyph.
+fn unless_global(mask: u32, global: u32) -> u32
+    ensures { result ≡ (if mask == global then 0 else mask) }
+{
+    if mask == global { 0 } else { mask }
 }

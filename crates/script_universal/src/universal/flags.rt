@@ -1,14 +1,14 @@
 //! Joined syllables that may not be parted: a lookup is for one of their glyphs in the form that it has, and not in the one that it
 //! would have in a part of the text, or the other way about.
 
-ghost use Rattle.std.specs.Prelude.{◌≡◌, false};
+ghost use Rattle.std.specs.Prelude.{◌≡◌, ◌&&◌, false, nat_le};
 ghost use Rattle.shaping_buffer.specs.KeepsClusters.{KeepsClusters};
+ghost use Rattle.script_universal.specs.Masks as forms;
 
-use crate::universal::masks::joins;
+use crate::universal::masks::{in_form, joins};
 use crate::universal::plan::FormMasks;
 use script_syllables::syllables::{kind_at, syllable};
 use shaping_buffer::{hb_buffer_t, hb_glyph_info_t};
-use std::ops::Range;
 
 /// A lookup that a form may have.
 pub trait FormLookup {
@@ -28,9 +28,29 @@ struct Joined {
 }
 
 /// Flags joined syllables as unsafe to break where a lookup hangs on the form of one of them that a break between them changes.
-#[tactic(auto, using(shaping_buffer::proofs::ClosedKeepsLemmas::kept))]
 pub fn flag_forms<L: FormLookup>(buffer: &mut hb_buffer_t, masks: &FormMasks, lookup: &L)
     requires { buffer.old.have_output ≡ false }
+    ensures closed { buffer.new.have_output ≡ false }
+    ensures keeps { KeepsClusters buffer.old buffer.new }
+{
+    flag_parted(
+        buffer,
+        masks,
+        &|glyph, other| lookup.is_parted(glyph, other),
+    );
+}
+
+/// Does that, by what is asked of a lookup.
+#[tactic(auto, using(shaping_buffer::proofs::ClosedKeepsLemmas::kept))]
+fn flag_parted<F: Fn(&hb_glyph_info_t, u32) -> bool>(
+    buffer: &mut hb_buffer_t,
+    masks: &FormMasks,
+    is_parted: &F,
+)
+    requires closed { buffer.old.have_output ≡ false }
+    requires callable { F.IsAlwaysCallable is_parted.now }
+    ensures is { (test : forms.Test) → ((g : _) (m : _) (r : _) → F.post is_parted.now g m r → r ≡ test g.now m)
+        → buffer.new ≡ forms.flagged test masks.now buffer.old }
     ensures closed { buffer.new.have_output ≡ false }
     ensures keeps { KeepsClusters buffer.old buffer.new }
 {
@@ -38,11 +58,11 @@ pub fn flag_forms<L: FormLookup>(buffer: &mut hb_buffer_t, masks: &FormMasks, lo
     let mut start = 0;
     for _turn in 0..buffer.len() {
         if start >= buffer.len() {
-            break;
+            return;
         }
         let end = buffer.next_syllable(start);
         let joined = joined_at(buffer.info(), start, end, last);
-        flag_joined(buffer, masks, lookup, last, joined);
+        flag_joined(buffer, masks, is_parted, last, joined);
         last = joined;
         start = end;
     }
@@ -54,7 +74,9 @@ fn joined_at(
     start: usize,
     end: usize,
     last: Option<Joined>,
-) -> Option<Joined> {
+) -> Option<Joined>
+    ensures { result ≡ forms.joined_at infos.now start end last }
+{
     if joins(kind_at(infos, start)) {
         Some(Joined {
             start,
@@ -67,61 +89,126 @@ fn joined_at(
 }
 
 /// Flags two syllables, if both join and a break between them changes what the lookup is for.
-#[tactic(auto, using(shaping_buffer::proofs::ClosedKeepsLemmas::kept))]
-fn flag_joined<L: FormLookup>(
+fn flag_joined<F: Fn(&hb_glyph_info_t, u32) -> bool>(
     buffer: &mut hb_buffer_t,
     masks: &FormMasks,
-    lookup: &L,
+    is_parted: &F,
     last: Option<Joined>,
     own: Option<Joined>,
 )
-    requires { buffer.old.have_output ≡ false }
+    requires closed { buffer.old.have_output ≡ false }
+    requires callable { F.IsAlwaysCallable is_parted.now }
+    ensures is { (test : forms.Test) → ((g : _) (m : _) (r : _) → F.post is_parted.now g m r → r ≡ test g.now m)
+        → buffer.new ≡ forms.flag_joined test masks.now last own buffer.old }
     ensures closed { buffer.new.have_output ≡ false }
     ensures keeps { KeepsClusters buffer.old buffer.new }
 {
-    if let Some(last) = last
-        && let Some(own) = own
-        && last.start <= own.end
-        && own.end <= buffer.len()
-        && are_parted(buffer.info(), masks, lookup, &last, &own)
-    {
-        buffer.unsafe_to_break(Some(last.start), Some(own.end));
+    match last {
+        Some(last) => match own {
+            Some(own) => flag_pair(buffer, masks, is_parted, &last, &own),
+            None => {}
+        },
+        None => {}
     }
 }
 
-/// Whether a break between two syllables changes what the lookup is for: the first becomes the last of its word, or stands alone, and
-/// the second the first of its word, or stands alone.
-fn are_parted<L: FormLookup>(
-    infos: &[hb_glyph_info_t],
+/// Flags two syllables that join, if a break between them changes what the lookup is for.
+#[tactic(auto, using(shaping_buffer::proofs::ClosedKeepsLemmas::kept))]
+fn flag_pair<F: Fn(&hb_glyph_info_t, u32) -> bool>(
+    buffer: &mut hb_buffer_t,
     masks: &FormMasks,
-    lookup: &L,
+    is_parted: &F,
     last: &Joined,
     own: &Joined,
-) -> bool {
-    let before = if last.is_first {
+)
+    requires closed { buffer.old.have_output ≡ false }
+    requires callable { F.IsAlwaysCallable is_parted.now }
+    ensures is { (test : forms.Test) → ((g : _) (m : _) (r : _) → F.post is_parted.now g m r → r ≡ test g.now m)
+        → buffer.new ≡ forms.flag_pair test masks.now last.now own.now buffer.old }
+    ensures closed { buffer.new.have_output ≡ false }
+    ensures keeps { KeepsClusters buffer.old buffer.new }
+{
+    if !lie_within(last, own, buffer.len()) {
+        return;
+    }
+    if !are_parted(buffer.info(), masks, is_parted, last, own) {
+        return;
+    }
+    buffer.unsafe_to_break(Some(last.start), Some(own.end));
+}
+
+/// Whether two syllables lie in a text of so many items.
+fn lie_within(last: &Joined, own: &Joined, count: usize) -> bool
+    ensures { result ≡ (nat_le last.now.start own.now.end && nat_le own.now.end count) }
+{
+    last.start <= own.end && own.end <= count
+}
+
+/// Whether a break between two syllables changes what the lookup is for, by the forms that they have before it and behind it.
+fn are_parted<F: Fn(&hb_glyph_info_t, u32) -> bool>(
+    infos: &[hb_glyph_info_t],
+    masks: &FormMasks,
+    is_parted: &F,
+    last: &Joined,
+    own: &Joined,
+) -> bool
+    requires { F.IsAlwaysCallable is_parted.now }
+    ensures { (test : forms.Test) → ((g : _) (m : _) (r : _) → F.post is_parted.now g m r → r ≡ test g.now m)
+        → result ≡ forms.are_parted test masks.now infos.now last.now own.now }
+{
+    let before = form_before(masks, last);
+    if is_one_parted(
+        syllable(infos, &(last.start..last.end)),
+        masks,
+        is_parted,
+        before,
+    ) {
+        return true;
+    }
+    let behind = form_behind(masks, infos, own);
+    is_one_parted(
+        syllable(infos, &(own.start..own.end)),
+        masks,
+        is_parted,
+        behind,
+    )
+}
+
+/// The mask of the form that a syllable has before a break: it becomes the last of its word, or stands alone.
+fn form_before(masks: &FormMasks, last: &Joined) -> u32
+    ensures { result ≡ forms.form_before masks.now last.now }
+{
+    if last.is_first {
         masks.isol
     } else {
         masks.fina
-    };
-    let behind = if joins(kind_at(infos, own.end)) {
+    }
+}
+
+/// The mask of the form that a syllable has behind a break: it becomes the first of its word, or stands alone.
+fn form_behind(masks: &FormMasks, infos: &[hb_glyph_info_t], own: &Joined) -> u32
+    ensures { result ≡ forms.form_behind masks.now infos.now own.now }
+{
+    if joins(kind_at(infos, own.end)) {
         masks.init
     } else {
         masks.isol
-    };
-    is_one_parted(infos, masks, lookup, &(last.start..last.end), before)
-        || is_one_parted(infos, masks, lookup, &(own.start..own.end), behind)
+    }
 }
 
 /// Whether the lookup is for one of these glyphs only in the form that it has, or only in another one.
-fn is_one_parted<L: FormLookup>(
-    infos: &[hb_glyph_info_t],
+fn is_one_parted<F: Fn(&hb_glyph_info_t, u32) -> bool>(
+    glyphs: &[hb_glyph_info_t],
     masks: &FormMasks,
-    lookup: &L,
-    range: &Range<usize>,
+    is_parted: &F,
     form: u32,
-) -> bool {
-    for glyph in syllable(infos, range) {
-        if lookup.is_parted(glyph, glyph.mask & !masks.all() | form) {
+) -> bool
+    requires { F.IsAlwaysCallable is_parted.now }
+    ensures { (test : forms.Test) → ((g : _) (m : _) (r : _) → F.post is_parted.now g m r → r ≡ test g.now m)
+        → result ≡ forms.is_one_parted test masks.now form glyphs.now }
+{
+    for glyph in glyphs {
+        if is_parted(glyph, in_form(masks, form, glyph.mask)) {
             return true;
         }
     }

@@ -1,8 +1,9 @@
 //! What the universal shaper keeps with an item: its category, and while syllables are found, whether they pass over it.
 
-ghost use Rattle.std.specs.Prelude.{◌≡◌, false};
+ghost use Rattle.std.specs.Prelude.{◌≡◌, false, if◌then◌else◌};
 ghost use Rattle.glyph_lists.specs.Clusters.{clusters};
 ghost use Rattle.shaping_buffer.specs.KeepsClusters.{KeepsClusters};
+ghost use Rattle.script_items.specs.Item.{with_shaper_byte};
 
 use script_items::item::is_unicode_mark;
 use script_syllables::item::{category_byte, is_ligated, set_category_byte};
@@ -74,7 +75,8 @@ fn mark_items(infos: &mut [hb_glyph_info_t])
 
 /// Sets whether syllables pass over an item, in the fourth byte of `var2`.
 fn set_passed_over(info: &mut hb_glyph_info_t, is_passed_over: bool)
-    ensures { info.new.cluster ≡ info.old.cluster }
+    ensures is { info.new ≡ with_shaper_byte (if is_passed_over then 1 else 0) info.old }
+    ensures cluster { info.new.cluster ≡ info.old.cluster }
 {
     let byte = if is_passed_over { 0x100_0000 } else { 0 };
     info.var2 = info.var2 % 0x100_0000 + byte;

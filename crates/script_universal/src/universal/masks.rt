@@ -1,8 +1,10 @@
 //! Which features the items of syllables have.
 
-ghost use Rattle.std.specs.Prelude.{◌≡◌, false};
+ghost use Rattle.std.specs.Prelude.{◌≡◌, ◌≤◌, false, length, map};
+ghost use Rattle.glyph_lists.specs.Parts.{map_range};
 ghost use Rattle.glyph_lists.specs.Clusters.{clusters};
 ghost use Rattle.shaping_buffer.specs.KeepsClusters.{KeepsClusters};
+ghost use Rattle.script_universal.specs.Masks as forms;
 
 use crate::universal::item::is;
 use crate::universal::plan::{BROKEN, FormMasks};
@@ -104,37 +106,68 @@ fn set_forms(infos: &mut [hb_glyph_info_t], masks: &FormMasks)
 }
 
 /// The mask of the last syllable that was read.
-fn own_mask(form: JoiningForm, masks: &FormMasks) -> u32 {
-    if form == JoiningForm::Last {
-        masks.fina
-    } else {
-        masks.isol
+fn own_mask(form: JoiningForm, masks: &FormMasks) -> u32
+    ensures { result ≡ forms.own_mask form masks.now }
+{
+    match form {
+        JoiningForm::Last => masks.fina,
+        JoiningForm::Unformed | JoiningForm::Alone => masks.isol,
     }
 }
 
 /// Whether syllables of a kind join.
-pub(crate) fn joins(kind: u8) -> bool {
+pub(crate) fn joins(kind: u8) -> bool
+    ensures { result ≡ forms.joins kind }
+{
     kind <= SYMBOL || kind == BROKEN
 }
 
 /// The form of a syllable of a kind, behind one of the form `last`.
-fn next_form(kind: u8, last: JoiningForm) -> JoiningForm {
+fn next_form(kind: u8, last: JoiningForm) -> JoiningForm
+    ensures { result ≡ forms.next_form kind last }
+{
     if !joins(kind) {
-        JoiningForm::Unformed
-    } else if last == JoiningForm::Unformed {
-        JoiningForm::Alone
-    } else {
-        JoiningForm::Last
+        return JoiningForm::Unformed;
+    }
+    match last {
+        JoiningForm::Unformed => JoiningForm::Alone,
+        JoiningForm::Alone | JoiningForm::Last => JoiningForm::Last,
     }
 }
 
 /// Gives the items from `start` to `end` the mask of a form, and takes those of the other forms.
-#[tactic(auto, using(shaping_buffer::proofs::ClosedKeepsLemmas::clusters_written))]
+#[tactic(auto, using(script_syllables::proofs::MovedLemmas::same))]
 fn set_form(infos: &mut [hb_glyph_info_t], start: usize, end: usize, masks: &FormMasks, mask: u32)
-    ensures { clusters infos.new ≡ clusters infos.old }
+    requires order { start ≤ end }
+    requires within { end ≤ length infos.old }
+    ensures is { infos.new ≡ map_range (forms.formed masks.now mask) infos.old start end }
+    ensures same { clusters infos.new ≡ clusters infos.old }
 {
-    let all = masks.all();
-    for place in start..end.min(infos.len()) {
-        infos[place].mask = infos[place].mask & !all | mask;
+    form_all(&mut infos[start..end], masks, mask);
+}
+
+/// Does that with all items of a list.
+#[tactic(auto, using(glyph_lists::proofs::MapLemmas::walks, shaping_buffer::proofs::ClosedKeepsLemmas::clusters_written))]
+fn form_all(infos: &mut [hb_glyph_info_t], masks: &FormMasks, mask: u32)
+    ensures is { infos.new ≡ map (forms.formed masks.now mask) infos.old }
+    ensures same { clusters infos.new ≡ clusters infos.old }
+{
+    for info in infos.iter_mut() {
+        form(info, masks, mask);
     }
+}
+
+/// Does that with an item.
+fn form(info: &mut hb_glyph_info_t, masks: &FormMasks, mask: u32)
+    ensures is { info.new ≡ forms.formed masks.now mask info.old }
+    ensures cluster { info.new.cluster ≡ info.old.cluster }
+{
+    info.mask = in_form(masks, mask, info.mask);
+}
+
+/// A mask with a form, and with none of the others.
+pub(crate) fn in_form(masks: &FormMasks, form: u32, mask: u32) -> u32
+    ensures { result ≡ forms.in_form masks.now form mask }
+{
+    mask & !masks.all() | form
 }

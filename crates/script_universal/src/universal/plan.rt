@@ -4,6 +4,7 @@ ghost use Rattle.std.specs.Prelude.{◌≡◌, true, false, IfOk};
 ghost use Rattle.shaping_buffer.specs.KeepsClusters.{KeepsClusters};
 ghost use Rattle.script_syllables.specs.KeepsNumbers.{KeepsNumbers};
 ghost use Rattle.shaping_passes.specs.Refusals.{IsRefusal};
+ghost use Rattle.script_universal.specs.Masks.{all_forms};
 
 use crate::universal::item::mark_passed_over;
 use crate::universal::machine::universal_machine;
@@ -60,7 +61,9 @@ pub struct FormMasks {
 
 impl FormMasks {
     /// Those of all forms.
-    pub fn all(&self) -> u32 {
+    pub fn all(&self) -> u32
+        ensures { result ≡ all_forms self.now }
+    {
         self.isol | self.init | self.medi | self.fina
     }
 }

@@ -1,8 +1,10 @@
 //! What became of glyphs by the features of rephs and of forms that stand in front: the glyphs are sorted anew.
 
-ghost use Rattle.std.specs.Prelude.{◌≡◌, false};
+ghost use Rattle.std.specs.Prelude.{◌≡◌, false, map};
 ghost use Rattle.glyph_lists.specs.Clusters.{clusters};
 ghost use Rattle.shaping_buffer.specs.KeepsClusters.{KeepsClusters};
+ghost use Rattle.script_syllables.specs.Item.{without_substitution};
+ghost use Rattle.script_universal.specs.Masks.{may_have_made};
 
 use crate::universal::item::set;
 use rb_glyph::{Flags, GlyphPropsFlags};
@@ -21,14 +23,22 @@ pub(crate) fn forget_substitutions(buffer: &mut hb_buffer_t)
 }
 
 /// Does that in a list.
-#[tactic(auto, using(shaping_buffer::proofs::ClosedKeepsLemmas::clusters_written))]
+#[tactic(auto, using(glyph_lists::proofs::MapLemmas::walks, shaping_buffer::proofs::ClosedKeepsLemmas::clusters_written))]
 fn forget_all(infos: &mut [hb_glyph_info_t])
-    ensures { clusters infos.new ≡ clusters infos.old }
+    ensures is { infos.new ≡ map without_substitution infos.old }
+    ensures same { clusters infos.new ≡ clusters infos.old }
 {
-    for place in 0..infos.len() {
-        let kept = infos[place].glyph_props() & !GlyphPropsFlags::SUBSTITUTED.bits();
-        infos[place].set_glyph_props(kept);
+    for info in infos.iter_mut() {
+        forget(info);
     }
+}
+
+/// Does that with a glyph.
+fn forget(info: &mut hb_glyph_info_t)
+    ensures is { info.new ≡ without_substitution info.old }
+    ensures cluster { info.new.cluster ≡ info.old.cluster }
+{
+    info.set_glyph_props(info.glyph_props() & !GlyphPropsFlags::SUBSTITUTED.bits());
 }
 
 /// A feature of which it is noted where it has made a glyph.
@@ -81,7 +91,9 @@ fn record_first(infos: &mut [hb_glyph_info_t], start: usize, end: usize, recorde
 }
 
 /// Whether a feature with this mask may have made a glyph.
-fn may_have_made(info: &hb_glyph_info_t, mask: Option<u32>) -> bool {
+fn may_have_made(info: &hb_glyph_info_t, mask: Option<u32>) -> bool
+    ensures { result ≡ may_have_made mask info.now }
+{
     match mask {
         Some(mask) => info.mask & mask != 0,
         None => true,

@@ -4,4 +4,4 @@ use Rattle.script_indic.proofs.final_order.mask_one.Goals as goal
 pub returns-clause-keeps : goal.returns-clause-keeps
 returns-clause-keeps c =
     keeps_with_input c.args.buffer.now c.add_mask.new.infos c.info_slice_mut.result.now c.info_slice_mut.ensures.value
-    c.add_mask.ensures
+    c.add_mask.ensures.same

@@ -4,4 +4,4 @@ use Rattle.script_universal.proofs.universal.recorded.forget_substitutions.Goals
 pub returns-clause-keeps : goal.returns-clause-keeps
 returns-clause-keeps c =
     keeps_with_input c.args.buffer.now c.forget_all.new.infos c.info_slice_mut.result.now c.info_slice_mut.ensures.value
-    c.forget_all.ensures
+    c.forget_all.ensures.same

@@ -1,6 +1,0 @@
-use Rattle.std.proofs.Common.{◌≡◌, false}
-use Rattle.shaping_buffer.specs.KeepsClusters.{KeepsClusters}
-use Rattle.script_universal.proofs.universal.flags.flag_forms.Given as goal
-
-abbrev pub invariant-loop-turn : goal.invariant-loop-turn
-invariant-loop-turn g l = (l.buffer.have_output ≡ false) × KeepsClusters l.fn.buffer l.buffer
