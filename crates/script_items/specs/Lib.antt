@@ -6,3 +6,4 @@ pub mod Moves
 pub mod Properties
 pub mod Selectors
 pub mod Spaces
+pub mod Ties

@@ -1,7 +1,9 @@
 //! Characters that hang on others elsewhere in the text, from which they may not be cut off.
 
-ghost use Rattle.std.specs.Prelude.{◌≡◌, false};
+ghost use Rattle.std.specs.Prelude.{◌≡◌, ◌<◌, ◌≤◌, ◌+◌, false, length, IfSome};
+ghost use Rattle.shaping_buffer.specs.ClusterStep as step;
 ghost use Rattle.shaping_buffer.specs.KeepsClusters.{KeepsClusters};
+ghost use Rattle.script_items.specs.Ties as tied;
 
 use shaping_buffer::{hb_buffer_t, hb_glyph_info_t};
 
@@ -41,9 +43,9 @@ fn keep_first<T: Ties>(buffer: &mut hb_buffer_t, ties: &T)
     ensures closed { buffer.new.have_output ≡ false }
     ensures keeps { KeepsClusters buffer.old buffer.new }
 {
-    if let Some((first, anchor)) = first_tied(buffer.info(), ties) {
-        keep_together(buffer, first, anchor);
-    }
+    let infos = buffer.info();
+    let pair = first_tied(&|place| ties.tie_of(infos, place), infos.len());
+    keep_together(buffer, pair);
 }
 
 /// Marks what lies between the last anchor and the last character that hangs on it.
@@ -53,46 +55,103 @@ fn keep_last<T: Ties>(buffer: &mut hb_buffer_t, ties: &T)
     ensures closed { buffer.new.have_output ≡ false }
     ensures keeps { KeepsClusters buffer.old buffer.new }
 {
-    if let Some((anchor, last)) = last_tied(buffer.info(), ties) {
-        keep_together(buffer, anchor, last);
-    }
+    let infos = buffer.info();
+    let pair = last_tied(&|place| ties.tie_of(infos, place), infos.len());
+    keep_together(buffer, pair);
 }
 
-/// Marks what lies between two characters as unsafe to break, where the first stands before the second.
+/// Marks two characters, and what lies between them, as unsafe to break, if there are two.
 #[tactic(auto, using(shaping_buffer::proofs::ClosedKeepsLemmas::kept))]
-fn keep_together(buffer: &mut hb_buffer_t, first: usize, last: usize)
-    requires { buffer.old.have_output ≡ false }
+fn keep_together(buffer: &mut hb_buffer_t, pair: Option<(usize, usize)>)
+    requires closed { buffer.old.have_output ≡ false }
+    requires within { IfSome pair (λ pair. (pair.0 < pair.1) × (pair.1 < length buffer.old.input)) }
+    ensures is { buffer.new ≡ tied.kept_together pair buffer.old }
     ensures closed { buffer.new.have_output ≡ false }
     ensures keeps { KeepsClusters buffer.old buffer.new }
 {
-    if first < last && last < buffer.len() {
-        buffer.unsafe_to_break(Some(first), Some(last + 1));
+    if let Some((first, last)) = pair {
+        keep_between(buffer, first, last);
     }
+}
+
+/// Marks two characters, and what lies between them, as unsafe to break.
+#[tactic(auto, using(shaping_buffer::proofs::ClosedKeepsLemmas::kept))]
+fn keep_between(buffer: &mut hb_buffer_t, first: usize, last: usize)
+    requires closed { buffer.old.have_output ≡ false }
+    requires order { first < last }
+    requires within { last < length buffer.old.input }
+    ensures is { buffer.new ≡ step.unsafe_to_break (Some first) (Some (last + 1)) buffer.old }
+    ensures closed { buffer.new.have_output ≡ false }
+    ensures keeps { KeepsClusters buffer.old buffer.new }
+{
+    prove!(last < buffer.len());
+    buffer.unsafe_to_break(Some(first), Some(last + 1));
 }
 
 /// The first character that hangs on an anchor behind it, and the first anchor.
-fn first_tied<T: Ties>(infos: &[hb_glyph_info_t], ties: &T) -> Option<(usize, usize)> {
-    let mut first = None;
-    for place in 0..infos.len() {
-        match ties.tie_of(infos, place) {
-            Tie::Anchor => return first.map(|first| (first, place)),
-            Tie::Hanging if first.is_none() => first = Some(place),
-            _ => {}
+fn first_tied<F: Fn(usize) -> Tie>(tie_at: &F, count: usize) -> Option<(usize, usize)>
+    requires { F.IsAlwaysCallable tie_at.now }
+    ensures is { (tie : tied.TieAt) → tied.Says (F.post tie_at.now) tie → result ≡ tied.first_tied tie count }
+    ensures within { IfSome result (λ pair. (pair.0 < pair.1) × (pair.1 < count)) }
+{
+    let anchor = first_of(tie_at, Tie::Anchor, count)?;
+    let first = first_of(tie_at, Tie::Hanging, anchor)?;
+    Some((first, anchor))
+}
+
+/// The last anchor, and the last character that hangs on it behind it.
+fn last_tied<F: Fn(usize) -> Tie>(tie_at: &F, count: usize) -> Option<(usize, usize)>
+    requires { F.IsAlwaysCallable tie_at.now }
+    ensures is { (tie : tied.TieAt) → tied.Says (F.post tie_at.now) tie → result ≡ tied.last_tied tie count }
+    ensures within { IfSome result (λ pair. (pair.0 < pair.1) × (pair.1 < count)) }
+{
+    let anchor = last_of(tie_at, Tie::Anchor, 0, count)?;
+    let last = last_of(tie_at, Tie::Hanging, anchor + 1, count)?;
+    Some((anchor, last))
+}
+
+/// The first of the places before `end` with a tie.
+fn first_of<F: Fn(usize) -> Tie>(tie_at: &F, wanted: Tie, end: usize) -> Option<usize>
+    requires { F.IsAlwaysCallable tie_at.now }
+    ensures is { (tie : tied.TieAt) → tied.Says (F.post tie_at.now) tie → result ≡ tied.first_of tie wanted end }
+    ensures within { IfSome result (λ place. place < end) }
+{
+    for place in 0..end {
+        if is_same(tie_at(place), wanted) {
+            return Some(place);
         }
     }
     None
 }
 
-/// The last anchor, and the last character that hangs on it behind it.
-fn last_tied<T: Ties>(infos: &[hb_glyph_info_t], ties: &T) -> Option<(usize, usize)> {
-    let mut last = None;
-    for turn in 0..infos.len() {
-        let place = infos.len() - 1 - turn;
-        match ties.tie_of(infos, place) {
-            Tie::Anchor => return last.map(|last| (place, last)),
-            Tie::Hanging if last.is_none() => last = Some(place),
-            _ => {}
+/// The last of the places from `start` on, before `count`, with a tie.
+fn last_of<F: Fn(usize) -> Tie>(
+    tie_at: &F,
+    wanted: Tie,
+    start: usize,
+    count: usize,
+) -> Option<usize>
+    requires { F.IsAlwaysCallable tie_at.now }
+    ensures is { (tie : tied.TieAt) → tied.Says (F.post tie_at.now) tie → result ≡ tied.last_of tie wanted start count }
+    ensures within { IfSome result (λ place. (start ≤ place) × (place < count)) }
+{
+    let mut end = count;
+    while end > start {
+        end -= 1;
+        if is_same(tie_at(end), wanted) {
+            return Some(end);
         }
     }
     None
+}
+
+/// Whether a tie is this one.
+fn is_same(tie: Tie, wanted: Tie) -> bool
+    ensures { result ≡ tied.is_same tie wanted }
+{
+    match tie {
+        Tie::Anchor => matches!(wanted, Tie::Anchor),
+        Tie::Hanging => matches!(wanted, Tie::Hanging),
+        Tie::Loose => matches!(wanted, Tie::Loose),
+    }
 }

@@ -1,4 +1,5 @@
 pub mod Batch
 pub mod CodePoints
 pub mod Features
+pub mod Options
 pub mod Variations

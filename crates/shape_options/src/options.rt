@@ -1,10 +1,15 @@
 //! What a command line asks for.
 
+ghost use Rattle.std.specs.Prelude.{◌≡◌, codes, IfOk, IfErr};
+ghost use Rattle.clap.specs.Matches.{found_of, first_value};
+ghost use Rattle.shape_options.specs.Options.{ChangesNothing, IfGiven, IsInt, IsLevelOf};
+
 use crate::code_points::{CodePointsError, code_points, text_of_code_points};
 use crate::features::{features, unquoted};
 use crate::output::{Output, output_of};
 use crate::sizes::{one_or_two, sizes};
 use crate::synthetic::{Synthetic, synthetic_of};
+use crate::values::{level_of, refuse_functions, refuse_load_flags, refuse_loader};
 use crate::variations::{value, variations};
 use clap::ArgMatches;
 use font_variations::user_variations::Variation;
@@ -211,26 +216,14 @@ fn font_choice<'a>(matches: &ArgMatches<'a>) -> Result<FontChoice, OptionsError<
 }
 
 /// Refuses the values of options that are there for HarfBuzz's sake alone, unless they change nothing.
-fn refuse_unsupported<'a>(matches: &ArgMatches<'a>) -> Result<(), OptionsError<'a>> {
-    let loader = matches.get_str("face-loader").unwrap_or("ot");
-    if !is_open_type(loader) {
-        return Err(OptionsError::FaceLoader(loader));
-    }
-    if let Some(flags) = matches.get_str("ft-load-flags") {
-        if flags.parse::<i32>().is_err() {
-            return Err(OptionsError::Number("ft-load-flags", flags));
-        }
-    }
-    let functions = matches.get_str("font-funcs").unwrap_or("ot");
-    if !is_open_type(functions) {
-        return Err(OptionsError::FontFuncs(functions));
-    }
+fn refuse_unsupported<'a>(matches: &ArgMatches<'a>) -> Result<(), OptionsError<'a>>
+    ensures ok { IfOk result (λ _. ChangesNothing (found_of matches.now)) }
+    ensures err { IfErr result (λ _. ChangesNothing (found_of matches.now) → ⊥) }
+{
+    refuse_loader(matches.get_str("face-loader"))?;
+    refuse_load_flags(matches.get_str("ft-load-flags"))?;
+    refuse_functions(matches.get_str("font-funcs"))?;
     Ok(())
-}
-
-/// Whether a reader or functions of a font are those that there are.
-fn is_open_type(name: &str) -> bool {
-    name.eq_ignore_ascii_case("ot")
 }
 
 /// The shapers, by their names.
@@ -415,18 +408,12 @@ fn glyph<'a>(
     }
 }
 
-/// How far clusters are merged. A number that is none of a level does not merge graphemes, as in HarfBuzz, so it is taken for level 1.
-fn cluster_level<'a>(matches: &ArgMatches<'a>) -> Result<BufferClusterLevel, OptionsError<'a>> {
-    let Some(text) = matches.get_str("cluster-level") else {
-        return Ok(BufferClusterLevel::MonotoneGraphemes);
-    };
-    match text.parse::<i32>() {
-        Ok(0) => Ok(BufferClusterLevel::MonotoneGraphemes),
-        Ok(2) => Ok(BufferClusterLevel::Characters),
-        Ok(3) => Ok(BufferClusterLevel::Graphemes),
-        Ok(_) => Ok(BufferClusterLevel::MonotoneCharacters),
-        Err(_) => Err(OptionsError::Number("cluster-level", text)),
-    }
+/// How far clusters are merged.
+fn cluster_level<'a>(matches: &ArgMatches<'a>) -> Result<BufferClusterLevel, OptionsError<'a>>
+    ensures ok { IfOk result (IsLevelOf (first_value (found_of matches.now) (codes "cluster-level"))) }
+    ensures err { IfErr result (λ _. IfGiven IsInt (first_value (found_of matches.now) (codes "cluster-level")) → ⊥) }
+{
+    level_of(matches.get_str("cluster-level"))
 }
 
 /// How long an em is across and upwards.
