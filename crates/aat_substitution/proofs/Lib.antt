@@ -8,5 +8,7 @@
 -- (`ClusterLemmas`).
 -- A subtable that goes over the glyphs from the last one on has the text turned before and after: what keeps the clusters
 -- of the turned text keeps those of the text (`TurnLemmas`). So does each chain then, and the whole table.
+-- Glyphs that are put in are put out one after the other, up to the first that is refused (`InsertionLemmas`).
 pub mod ClusterLemmas
+pub mod InsertionLemmas
 pub mod TurnLemmas

@@ -1,3 +1,5 @@
+pub mod Actions
+pub mod Insertions
 pub mod Left
 pub mod Alike
 pub mod Deletion

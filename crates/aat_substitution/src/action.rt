@@ -2,6 +2,7 @@
 
 ghost use Rattle.std.specs.Prelude.{◌≡◌, true, false, IfOk};
 ghost use Rattle.shaping_buffer.specs.KeepsClusters.{KeepsClusters};
+ghost use Rattle.aat_substitution.specs.Actions.{is_in_place};
 ghost use Rattle.aat_substitution.specs.Left.{IsLeftAs, IsLeftOpen};
 ghost use Rattle.ot_layout.specs.Budget.{IsNotMore};
 ghost use Rattle.shaping_passes.specs.Refusals.{IsRefusal};
@@ -46,7 +47,9 @@ impl<'a> Action<'a> {
     }
 
     /// Whether the glyphs stay in their list: no output is opened.
-    pub(crate) fn is_in_place(&self) -> bool {
+    pub(crate) fn is_in_place(&self) -> bool
+        ensures { result ≡ is_in_place self.now }
+    {
         match self {
             Action::Rearrangement(_) | Action::Contextual(_) => true,
             Action::Ligature(_) | Action::Insertion(_) => false,

@@ -1,6 +1,7 @@
 //! The flags of chains in the parts of a text: HarfBuzz's `hb_aat_map_t`.
 
-ghost use Rattle.std.specs.Prelude.{◌≡◌, ◌<◌, ◌≤◌};
+ghost use Rattle.std.specs.Prelude.{◌≡◌, vec_len};
+ghost use Rattle.aat_substitution.specs.Actions.{is_asked_for, is_selected};
 
 use crate::selection::{LETTER_CASE, LOWER_CASE, LOWER_CASE_SMALL_CAPS, SelectedFeature};
 use aat_tables::{Chain, Metamorphosis};
@@ -21,6 +22,8 @@ pub struct ChainFlags {
 }
 
 impl ChainFlags {
+    ghost use Rattle.aat_substitution.specs.Actions.{flags_in};
+
     /// The flags of the chains of a table, where these features are selected.
     pub fn new(
         alloc: Global,
@@ -74,7 +77,9 @@ impl ChainFlags {
     }
 
     /// How many parts the text has.
-    pub fn part_count(&self) -> usize {
+    pub fn part_count(&self) -> usize
+        ensures { result ≡ vec_len self.now.ends }
+    {
         self.ends.len()
     }
 
@@ -84,7 +89,9 @@ impl ChainFlags {
     }
 
     /// The flags of a chain in a part.
-    pub fn flags(&self, chain: usize, part: usize) -> u32 {
+    pub fn flags(&self, chain: usize, part: usize) -> u32
+        ensures { result ≡ flags_in self.now chain part }
+    {
         let place = part.saturating_mul(self.chain_count).saturating_add(chain);
         self.flags.get(place).copied().unwrap_or(0)
     }
@@ -126,7 +133,9 @@ fn flags_of(chain: &Chain, selected: &[SelectedFeature], start: u32) -> u32 {
 }
 
 /// Whether a setting is selected from a cluster on. Small capitals also count by the old feature of letters.
-fn is_asked_for(selected: &[SelectedFeature], start: u32, kind: u16, setting: u16) -> bool {
+fn is_asked_for(selected: &[SelectedFeature], start: u32, kind: u16, setting: u16) -> bool
+    ensures { result ≡ is_asked_for selected.now start kind setting }
+{
     is_selected(selected, start, kind, setting)
         || kind == LETTER_CASE
             && setting == SMALL_CAPS
@@ -134,7 +143,10 @@ fn is_asked_for(selected: &[SelectedFeature], start: u32, kind: u16, setting: u1
 }
 
 /// Whether a setting is selected from a cluster on: of the settings that turn the same thing on or off, the first one counts.
-fn is_selected(selected: &[SelectedFeature], start: u32, kind: u16, setting: u16) -> bool {
+#[tactic(auto, unfolding(crate::specs::Actions::is_selected))]
+fn is_selected(selected: &[SelectedFeature], start: u32, kind: u16, setting: u16) -> bool
+    ensures { result ≡ is_selected selected.now start kind setting }
+{
     let setting = u32::from(setting);
     for feature in selected {
         if feature.is_for(start) && feature.is_like(kind, setting) {

@@ -1,6 +1,7 @@
 //! Subtables that put another glyph in the place of a glyph beside others.
 
-ghost use Rattle.std.specs.Prelude.{◌≡◌, ◌<◌, ◌≤◌, true, false, length};
+ghost use Rattle.std.specs.Prelude.{◌≡◌, ◌<◌, ◌≤◌, None, Some, true, false, length};
+ghost use Rattle.aat_substitution.specs.Actions.{has_flag, list_at};
 ghost use Rattle.shaping_buffer.specs.KeepsClusters.{KeepsClusters};
 ghost use Rattle.ot_layout.specs.Budget.{IsNotMore};
 
@@ -31,7 +32,11 @@ pub(crate) struct Contextual<'a> {
 
 impl<'a> Contextual<'a> {
     /// The lookups of a subtable, of a font with so many glyphs. No glyph is marked.
-    pub(crate) fn new(table: &'a [u8], glyph_count: u16) -> Self {
+    pub(crate) fn new(table: &'a [u8], glyph_count: u16) -> Self
+        ensures lookups { result.lookups.now ≡ list_at table.now 16 }
+        ensures glyphs { result.glyph_count ≡ glyph_count }
+        ensures mark { result.mark ≡ None }
+    {
         let offset = u32_at(table, LOOKUPS).unwrap_or(0);
         Contextual {
             lookups: tail(table, offset as usize),
@@ -60,6 +65,8 @@ impl<'a> Contextual<'a> {
         ensures closed { buffer.new.have_output ≡ false }
         ensures spent { IsNotMore work.old.budget work.new.budget }
         ensures keeps { KeepsClusters buffer.old buffer.new }
+        ensures kept { has_flag entry.now 0x8000 ≡ false → self.new ≡ self.old }
+        ensures marked { has_flag entry.now 0x8000 ≡ true → buffer.old.idx < length buffer.old.input → self.new.mark ≡ Some buffer.old.idx }
     {
         let at = buffer.idx();
         if at >= buffer.len() && self.mark.is_none() {

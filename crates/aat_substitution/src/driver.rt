@@ -1,7 +1,8 @@
 //! The walk of a state table over a text: HarfBuzz's `StateTableDriver`.
 
-ghost use Rattle.std.specs.Prelude.{◌≡◌, ◌<◌, ◌≤◌, true, false, length, IfOk};
+ghost use Rattle.std.specs.Prelude.{◌≡◌, ◌⊎◌, ◌<◌, ◌≤◌, Ok, true, false, length, IfOk};
 ghost use Rattle.shaping_buffer.specs.KeepsClusters.{KeepsClusters};
+ghost use Rattle.shaping_buffer.specs.State.{lookahead_len};
 ghost use Rattle.aat_substitution.specs.Left.{IsLeftAs, IsLeftClosed};
 ghost use Rattle.ot_layout.specs.Budget.{IsNotMore};
 ghost use Rattle.shaping_passes.specs.Refusals.{IsRefusal};
@@ -226,6 +227,8 @@ fn mark_break(buffer: &mut hb_buffer_t)
 
 /// Goes to the next glyph, if there is one.
 fn advance(buffer: &mut hb_buffer_t, next: Place) -> Result<Step, AllocError>
+    ensures end { lookahead_len buffer.old ≡ 0 → result ≡ Ok Step.End }
+    ensures on { IfOk result (λ step. (step ≡ Step.End) ⊎ ((step ≡ Step.Refused) ⊎ (step ≡ Step.On next))) }
     ensures left { IsLeftAs buffer.old result buffer.new }
     ensures refusal { IsRefusal Step.Refused result buffer.new }
     ensures keeps { KeepsClusters buffer.old buffer.new }

@@ -1,9 +1,11 @@
 //! Which feature of Apple's stands for a feature of OpenType: its type, and the settings that turn it on and off (HarfBuzz,
 //! `feature_mappings`; Apple's TrueType Reference Manual, "Font feature registry").
 
-ghost use Rattle.std.specs.Prelude.{◌≡◌, IfSome};
+ghost use Rattle.std.specs.Prelude.{◌≡◌, IfSome, IsTrue};
+ghost use Rattle.aat_substitution.specs.Actions.{mapping_of, settings_of, tags_rise};
 
 use rb_common::Tag;
+use rb_glyph::row_search::row_at;
 
 /// A feature of OpenType, and the feature of Apple's that stands for it.
 #[derive(Clone, Copy, PartialEq, Eq)]
@@ -19,7 +21,7 @@ pub struct FeatureMapping {
 }
 
 /// The features, in the order of their tags: the tag, the type of Apple's feature, and the settings that turn it on and off.
-const FEATURES: [(u32, u16, u16, u16); 78] = [
+static FEATURES: [(u32, u16, u16, u16); 78] = [
     (0x61667263, 11, 1, 0), // afrc
     (0x63327063, 38, 2, 0), // c2pc
     (0x63327363, 38, 1, 0), // c2sc
@@ -101,15 +103,24 @@ const FEATURES: [(u32, u16, u16, u16); 78] = [
 ];
 
 /// The feature of Apple's that stands for an OpenType feature; `None` where there is none.
+#[tactic(auto, unfolding(crate::specs::Actions::mapping_of))]
 pub fn mapping_of(tag: Tag) -> Option<FeatureMapping>
-    ensures { IfSome result (λ mapping. mapping.tag ≡ tag) }
+    ensures is { result ≡ mapping_of tag }
+    ensures tag { IfSome result (λ mapping. mapping.tag ≡ tag) }
 {
-    let place = FEATURES.binary_search_by_key(&tag.0, |row| row.0).ok()?;
-    let (_, kind, enable, disable) = FEATURES[place];
+    let (kind, enable, disable) = settings_of(&FEATURES, tag.0)?;
     Some(FeatureMapping {
         tag,
         kind,
         enable,
         disable,
     })
+}
+
+/// What the row of a tag holds.
+fn settings_of(rows: &[(u32, u16, u16, u16)], tag: u32) -> Option<(u16, u16, u16)>
+    requires { IsTrue (tags_rise rows.now) }
+    ensures { result ≡ settings_of tag rows.now }
+{
+    row_at(rows, |row| row.0.cmp(&tag)).map(|row| (row.1, row.2, row.3))
 }

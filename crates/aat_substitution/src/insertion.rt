@@ -1,7 +1,9 @@
 //! Subtables that put glyphs in, before or behind others.
 
-ghost use Rattle.std.specs.Prelude.{◌≡◌, ◌<◌, ◌≤◌, true, false, length, IfOk};
+ghost use Rattle.std.specs.Prelude.{◌≡◌, ◌+◌, ◌<◌, ◌∷◌, true, false, length, min, slice_index, take};
 ghost use Rattle.shaping_buffer.specs.KeepsClusters.{KeepsClusters};
+ghost use Rattle.aat_substitution.specs.Actions.{has_flag, list_at, puts_in};
+ghost use Rattle.aat_substitution.specs.Insertions.{GivesOrWants, first_glyphs, glyph_at, inserted_count, inserted_glyphs, put_before, put_behind, put_in, put_one};
 ghost use Rattle.aat_substitution.specs.Left.{IsLeftOpen};
 ghost use Rattle.ot_layout.specs.Budget.{IsNotMore};
 ghost use Rattle.shaping_passes.specs.Refusals.{IsRefusal};
@@ -49,6 +51,15 @@ struct Inserted<'a> {
     is_before: bool,
 }
 
+impl Inserted<'_> {
+    /// The glyph at a place of the list.
+    fn glyph_at(&self, place: u16) -> u32
+        ensures { result ≡ glyph_at self.now.glyphs.now place }
+    {
+        u32::from(u16_at(self.glyphs, 2 * usize::from(place)).unwrap_or(0))
+    }
+}
+
 /// The glyphs of a subtable, and the place of the marked glyph.
 #[derive(Clone, Copy)]
 pub(crate) struct Insertion<'a> {
@@ -58,7 +69,10 @@ pub(crate) struct Insertion<'a> {
 
 impl<'a> Insertion<'a> {
     /// The glyphs of a subtable. The first glyph is marked.
-    pub(crate) fn new(table: &'a [u8]) -> Self {
+    pub(crate) fn new(table: &'a [u8]) -> Self
+        ensures glyphs { result.glyphs.now ≡ list_at table.now 16 }
+        ensures mark { result.mark ≡ 0 }
+    {
         Insertion {
             glyphs: tail(table, u32_at(table, GLYPHS).unwrap_or(0) as usize),
             mark: 0,
@@ -66,13 +80,19 @@ impl<'a> Insertion<'a> {
     }
 
     /// Whether an entry puts glyphs in.
-    pub(crate) fn is_actionable(&self, entry: &Entry) -> bool {
+    pub(crate) fn is_actionable(&self, entry: &Entry) -> bool
+        ensures { result ≡ puts_in entry.now }
+    {
         entry.flags & (CURRENT_COUNT | MARKED_COUNT) != 0
             && (entry.data[0] != NONE || entry.data[1] != NONE)
     }
 
     /// So many glyphs from one on; none where the list does not hold them.
-    fn inserted(&self, first: u16, count: u16, is_before: bool) -> Inserted<'a> {
+    fn inserted(&self, first: u16, count: u16, is_before: bool) -> Inserted<'a>
+        ensures glyphs { result.glyphs.now ≡ inserted_glyphs self.now.glyphs.now first count }
+        ensures count { result.count ≡ inserted_count self.now.glyphs.now first count }
+        ensures side { result.is_before ≡ is_before }
+    {
         let glyphs = part(self.glyphs, 2 * usize::from(first), 2 * usize::from(count));
         let is_whole = glyphs.len() == 2 * usize::from(count);
         Inserted {
@@ -94,6 +114,8 @@ impl<'a> Insertion<'a> {
         ensures spent { IsNotMore work.old.budget work.new.budget }
         ensures refusal { IsRefusal false result buffer.new }
         ensures keeps { KeepsClusters buffer.old buffer.new }
+        ensures kept { has_flag entry.now 0x8000 ≡ false → self.new ≡ self.old }
+        ensures marked { has_flag entry.now 0x8000 ≡ true → slice_index entry.now.«data» 1 ≡ 0xFFFF → self.new.mark ≡ length buffer.old.out }
     {
         let mark = buffer.out_len();
         if entry.data[1] != NONE {
@@ -202,35 +224,68 @@ fn mark_break(buffer: &mut hb_buffer_t, from: usize)
 /// them. `Ok(false)` where the buffer refused a call for length.
 fn insert(buffer: &mut hb_buffer_t, inserted: &Inserted) -> Result<bool, AllocError>
     requires { buffer.old.have_output ≡ true }
+    ensures gives { GivesOrWants (put_in inserted.now.glyphs.now inserted.now.count inserted.now.is_before buffer.old) result buffer.new }
     ensures left { IsLeftOpen result buffer.new }
     ensures refusal { IsRefusal false result buffer.new }
     ensures keeps { KeepsClusters buffer.old buffer.new }
 {
-    let has_current = buffer.lookahead_len() > 0;
-    if has_current && !inserted.is_before {
-        return insert_behind(buffer, inserted);
+    if buffer.lookahead_len() == 0 || inserted.is_before {
+        return insert_before(buffer, inserted);
     }
-    for number in 0..inserted.count {
-        let glyph = u16_at(inserted.glyphs, 2 * usize::from(number)).unwrap_or(0);
-        if !buffer.output_glyph(u32::from(glyph))? {
+    insert_behind(buffer, inserted)
+}
+
+/// Puts glyphs out before the current glyph. `Ok(false)` where the buffer refused a call for length.
+fn insert_before(buffer: &mut hb_buffer_t, inserted: &Inserted) -> Result<bool, AllocError>
+    requires { buffer.old.have_output ≡ true }
+    ensures gives { GivesOrWants (put_before inserted.now.glyphs.now inserted.now.count buffer.old) result buffer.new }
+    ensures left { IsLeftOpen result buffer.new }
+    ensures refusal { IsRefusal false result buffer.new }
+    ensures keeps { KeepsClusters buffer.old buffer.new }
+{
+    for place in 0..inserted.count {
+        if !put_one(buffer, inserted, place)? {
             return Ok(false);
         }
     }
     Ok(true)
 }
 
-/// Puts the current glyph out, and glyphs behind it. `Ok(false)` where the buffer refused a call for length.
-fn insert_behind(buffer: &mut hb_buffer_t, inserted: &Inserted) -> Result<bool, AllocError>
-    requires opened { buffer.old.have_output ≡ true }
-    requires glyph { 0 < length buffer.old.input }
+/// Puts a glyph of the list out. `Ok(false)` where the buffer refused a call for length.
+#[tactic(auto, using(shaping_buffer::proofs::ClosedKeepsLemmas::kept), unfolding(crate::specs::Insertions::put_one))]
+fn put_one(buffer: &mut hb_buffer_t, inserted: &Inserted, place: u16) -> Result<bool, AllocError>
+    requires { buffer.old.have_output ≡ true }
+    ensures gives { GivesOrWants (put_one inserted.now.glyphs.now place buffer.old) result buffer.new }
     ensures left { IsLeftOpen result buffer.new }
     ensures refusal { IsRefusal false result buffer.new }
     ensures keeps { KeepsClusters buffer.old buffer.new }
 {
-    let mut ids = [buffer.cur(0).glyph_id; 32];
+    buffer.output_glyph(inserted.glyph_at(place))
+}
+
+/// Puts the current glyph out, and glyphs behind it. `Ok(false)` where the buffer refused a call for length.
+#[tactic(auto, using(shaping_buffer::proofs::ClosedKeepsLemmas::kept), unfolding(crate::specs::Insertions::put_behind))]
+fn insert_behind(buffer: &mut hb_buffer_t, inserted: &Inserted) -> Result<bool, AllocError>
+    requires opened { buffer.old.have_output ≡ true }
+    requires glyph { 0 < length buffer.old.input }
+    ensures gives { GivesOrWants (put_behind inserted.now.glyphs.now inserted.now.count buffer.old) result buffer.new }
+    ensures left { IsLeftOpen result buffer.new }
+    ensures refusal { IsRefusal false result buffer.new }
+    ensures keeps { KeepsClusters buffer.old buffer.new }
+{
+    let ids = glyphs_behind(buffer.cur(0).glyph_id, inserted);
     let count = usize::from(inserted.count).min(31);
-    for number in 0..count {
-        ids[number + 1] = u32::from(u16_at(inserted.glyphs, 2 * number).unwrap_or(0));
-    }
     buffer.replace_glyphs(1, count + 1, &ids)
+}
+
+/// A glyph, and those that are put in behind it.
+#[tactic(auto, unfolding(crate::specs::Insertions::first_glyphs))]
+fn glyphs_behind(glyph: u32, inserted: &Inserted) -> [u32; 32]
+    ensures { take (min inserted.now.count 31 + 1) result ≡ glyph ∷ first_glyphs inserted.now.glyphs.now (min inserted.now.count 31) }
+{
+    let mut glyphs = [glyph; 32];
+    for place in 0..inserted.count.min(31) {
+        glyphs[usize::from(place) + 1] = inserted.glyph_at(place);
+    }
+    glyphs
 }

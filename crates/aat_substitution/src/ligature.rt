@@ -1,7 +1,8 @@
 //! Subtables that make ligatures: components are pushed on a stack, and ligatures made of those on its top.
 
-ghost use Rattle.std.specs.Prelude.{◌≡◌, ◌<◌, ◌≤◌, true, false, length, IfOk};
+ghost use Rattle.std.specs.Prelude.{◌≡◌, ◌<◌, ◌≤◌, true, false, length};
 ghost use Rattle.shaping_buffer.specs.KeepsClusters.{KeepsClusters};
+ghost use Rattle.aat_substitution.specs.Actions.{component_of, has_flag, list_at, place_on, pushed_count, pushed_places};
 ghost use Rattle.aat_substitution.specs.Left.{IsLeftOpen};
 ghost use Rattle.ot_layout.specs.Budget.{IsNotMore};
 ghost use Rattle.shaping_passes.specs.Refusals.{IsRefusal};
@@ -62,7 +63,12 @@ enum Made {
 
 impl<'a> Ligature<'a> {
     /// The tables of a subtable. No glyph is on the stack.
-    pub(crate) fn new(table: &'a [u8]) -> Self {
+    pub(crate) fn new(table: &'a [u8]) -> Self
+        ensures actions { result.actions.now ≡ list_at table.now 16 }
+        ensures components { result.components.now ≡ list_at table.now 20 }
+        ensures ligatures { result.ligatures.now ≡ list_at table.now 24 }
+        ensures empty { result.count ≡ 0 }
+    {
         Ligature {
             actions: tail(table, u32_at(table, 16).unwrap_or(0) as usize),
             components: tail(table, u32_at(table, 20).unwrap_or(0) as usize),
@@ -73,12 +79,16 @@ impl<'a> Ligature<'a> {
     }
 
     /// Whether an entry makes a ligature.
-    pub(crate) fn is_actionable(&self, entry: &Entry) -> bool {
+    pub(crate) fn is_actionable(&self, entry: &Entry) -> bool
+        ensures { result ≡ has_flag entry.now 0x2000 }
+    {
         entry.flags & PERFORM_ACTION != 0
     }
 
     /// The place of a component.
-    fn place(&self, component: usize) -> usize {
+    fn place(&self, component: usize) -> usize
+        ensures { result ≡ place_on self.now.places component }
+    {
         self.places[component % STACK_SIZE]
     }
 
@@ -94,6 +104,11 @@ impl<'a> Ligature<'a> {
         ensures spent { IsNotMore work.old.budget work.new.budget }
         ensures refusal { IsRefusal false result buffer.new }
         ensures keeps { KeepsClusters buffer.old buffer.new }
+        ensures same { has_flag entry.now 0x8000 ≡ false → has_flag entry.now 0x2000 ≡ false → self.new ≡ self.old }
+        ensures place { has_flag entry.now 0x8000 ≡ true → has_flag entry.now 0x2000 ≡ false
+            → self.new.places ≡ pushed_places self.old.places self.old.count (length buffer.old.out) }
+        ensures count { has_flag entry.now 0x8000 ≡ true → has_flag entry.now 0x2000 ≡ false
+            → self.new.count ≡ pushed_count self.old.places self.old.count (length buffer.old.out) }
     {
         if entry.flags & SET_COMPONENT != 0 {
             self.push(buffer.out_len());
@@ -109,7 +124,13 @@ impl<'a> Ligature<'a> {
     }
 
     /// Pushes a place on the stack, once where it is there already.
-    fn push(&mut self, place: usize) {
+    fn push(&mut self, place: usize)
+        ensures places { self.new.places ≡ pushed_places self.old.places self.old.count place }
+        ensures count { self.new.count ≡ pushed_count self.old.places self.old.count place }
+        ensures actions { self.new.actions.now ≡ self.old.actions.now }
+        ensures components { self.new.components.now ≡ self.old.components.now }
+        ensures ligatures { self.new.ligatures.now ≡ self.old.ligatures.now }
+    {
         if self.count > 0 && self.place(self.count - 1) == place {
             self.count -= 1;
         }
@@ -190,13 +211,7 @@ impl<'a> Ligature<'a> {
         if buffer.lookahead_len() == 0 {
             return None;
         }
-        let offset = action & OFFSET;
-        let offset = if offset & OFFSET_SIGN != 0 {
-            offset | !OFFSET
-        } else {
-            offset
-        };
-        let place = buffer.cur(0).glyph_id.wrapping_add(offset);
+        let place = component_of(buffer.cur(0).glyph_id, action);
         u16_at(self.components, place as usize * 2)
     }
 
@@ -231,6 +246,18 @@ impl<'a> Ligature<'a> {
         }
         merge(buffer, self.place(component));
         Ok(true)
+    }
+}
+
+/// The number of a glyph among components, by an action, whose offset may be negative.
+fn component_of(glyph: u32, action: u32) -> u32
+    ensures { result ≡ component_of glyph action }
+{
+    let offset = action & OFFSET;
+    if offset & OFFSET_SIGN != 0 {
+        glyph.wrapping_add(offset | !OFFSET)
+    } else {
+        glyph.wrapping_add(offset)
     }
 }
 

@@ -1,6 +1,7 @@
 //! Subtables that put glyphs in another order.
 
-ghost use Rattle.std.specs.Prelude.{◌≡◌, ◌<◌, ◌≤◌, true, false, length};
+ghost use Rattle.std.specs.Prelude.{◌≡◌, ◌+◌, ◌<◌, ◌≤◌, ◌&&◌, true, false, length, min, nat_lt, if◌then◌else◌};
+ghost use Rattle.aat_substitution.specs.Actions.{has_flag};
 ghost use Rattle.aat_substitution.specs.Alike.{AreAlike};
 ghost use Rattle.shaping_buffer.specs.ClusterStep.{any_order};
 ghost use Rattle.shaping_buffer.specs.KeepsClusters.{KeepsClusters, IsOneCluster};
@@ -79,12 +80,16 @@ pub(crate) struct Rearrangement {
 
 impl Rearrangement {
     /// No glyphs.
-    pub(crate) fn new() -> Self {
+    pub(crate) fn new() -> Self
+        ensures { result ≡ record { start = 0; end = 0 } }
+    {
         Rearrangement { start: 0, end: 0 }
     }
 
     /// Whether an entry puts glyphs in order.
-    pub(crate) fn is_actionable(&self, entry: &Entry) -> bool {
+    pub(crate) fn is_actionable(&self, entry: &Entry) -> bool
+        ensures { result ≡ (has_flag entry.now 0x000F && nat_lt self.now.start self.now.end) }
+    {
         entry.flags & VERB != 0 && self.start < self.end
     }
 
@@ -93,6 +98,9 @@ impl Rearrangement {
         requires { buffer.old.have_output ≡ false }
         ensures closed { buffer.new.have_output ≡ false }
         ensures keeps { KeepsClusters buffer.old buffer.new }
+        ensures first { self.new.start ≡ (if has_flag entry.now 0x8000 then buffer.old.idx else self.old.start) }
+        ensures last { self.new.end
+            ≡ (if has_flag entry.now 0x2000 then min (buffer.old.idx + 1) (length buffer.old.input) else self.old.end) }
     {
         if entry.flags & MARK_FIRST != 0 {
             self.start = buffer.idx();

@@ -1,5 +1,7 @@
 //! The features of a user as settings of Apple's features: HarfBuzz's `hb_aat_map_builder_t::add_feature`.
 
+ghost use Rattle.std.specs.Prelude.{◌≡◌};
+
 use crate::feature_mapping::{FeatureMapping, mapping_of};
 use aat_tables::{FeatureName, FeatureNames};
 use rb_common::Tag;
@@ -34,16 +36,22 @@ pub struct SelectedFeature {
 }
 
 impl SelectedFeature {
+    ghost use Rattle.aat_substitution.specs.Actions.{is_for, is_like};
+
     /// Whether the clusters from one on have the setting, up to the next one at which a feature begins or ends. One that ends before
     /// it begins does not end, as in HarfBuzz.
-    pub(crate) fn is_for(&self, cluster: u32) -> bool {
+    pub(crate) fn is_for(&self, cluster: u32) -> bool
+        ensures { result ≡ is_for self.now cluster }
+    {
         self.start != self.end
             && self.start <= cluster
             && (cluster < self.end || self.end < self.start)
     }
 
     /// Whether it is of the same feature as a setting, and turns on or off what that turns on or off.
-    pub(crate) fn is_like(&self, kind: u16, setting: u32) -> bool {
+    pub(crate) fn is_like(&self, kind: u16, setting: u32) -> bool
+        ensures { result ≡ is_like self.now kind setting }
+    {
         self.kind == kind && (self.is_exclusive || self.setting / 2 == setting / 2)
     }
 }

@@ -1,5 +1,8 @@
 //! A subtable as it is applied to a text.
 
+ghost use Rattle.std.specs.Prelude.{◌≡◌, bit_and, nat_eq, nat_lt, not, vec_len};
+ghost use Rattle.aat_substitution.specs.Actions.{flags_in};
+
 use crate::chain_flags::ChainFlags;
 use aat_tables::StateTable;
 use font_tables::gdef::Gdef;
@@ -20,12 +23,16 @@ pub(crate) struct Reach<'a> {
 
 impl Reach<'_> {
     /// Whether the text has several parts, so that it is asked of each glyph in which it is.
-    pub(crate) fn is_parted(&self) -> bool {
+    pub(crate) fn is_parted(&self) -> bool
+        ensures { result ≡ nat_lt 1 (vec_len self.now.flags.now.ends) }
+    {
         self.flags.part_count() > 1
     }
 
     /// Whether the subtable is applied in a part.
-    pub(crate) fn reaches(&self, part: usize) -> bool {
+    pub(crate) fn reaches(&self, part: usize) -> bool
+        ensures { result ≡ not (nat_eq (bit_and (flags_in self.now.flags.now self.now.chain part) self.now.subtable) 0) }
+    {
         self.flags.flags(self.chain, part) & self.subtable != 0
     }
 }

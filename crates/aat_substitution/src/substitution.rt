@@ -2,6 +2,7 @@
 
 ghost use Rattle.std.specs.Prelude.{◌≡◌, ◌<◌, ◌≤◌, true, false, length, IfOk};
 ghost use Rattle.shaping_buffer.specs.KeepsClusters.{KeepsClusters};
+ghost use Rattle.aat_substitution.specs.Actions.{is_for_line, is_reversed};
 ghost use Rattle.aat_substitution.specs.Left.{IsLeftClosed};
 ghost use Rattle.ot_layout.specs.Budget.{IsNotMore};
 ghost use Rattle.shaping_passes.specs.Refusals.{IsRefusal};
@@ -91,12 +92,16 @@ fn apply_chain(
 }
 
 /// Whether a subtable is for lines that run in a direction.
-fn is_for(coverage: SubtableCoverage, direction: Direction) -> bool {
+fn is_for(coverage: SubtableCoverage, direction: Direction) -> bool
+    ensures { result ≡ is_for_line coverage direction }
+{
     coverage.all_directions || coverage.is_vertical == direction.is_vertical()
 }
 
 /// Whether a subtable goes over the glyphs from the last one on: they stand in the order of the characters.
-fn is_reversed(coverage: SubtableCoverage, direction: Direction) -> bool {
+fn is_reversed(coverage: SubtableCoverage, direction: Direction) -> bool
+    ensures { result ≡ is_reversed coverage direction }
+{
     if coverage.is_logical {
         coverage.is_backwards
     } else {

@@ -1,7 +1,7 @@
 //! What is carried from subtable to subtable while a text is shaped.
 
-ghost use Rattle.std.specs.Prelude.{◌≡◌, ◌≤◌, IsFalse};
-ghost use Rattle.ot_layout.specs.Budget.{IsNotMore};
+ghost use Rattle.std.specs.Prelude.{◌≡◌, ◌+◌, ◌-◌, ◌*◌, ◌^◌, length, min, nat_lt};
+ghost use Rattle.ot_layout.specs.Budget.{IsNotMore, steps_for};
 
 use glyph_digests::Digest;
 use ot_layout::Budget;
@@ -22,7 +22,9 @@ pub(crate) struct Work {
 impl Work {
     /// The work on a text of these glyphs, for which so many operations may be made: a state table may stay at a glyph so often,
     /// and so many glyphs may be put in.
-    pub(crate) fn new(max_ops: i32, glyphs: &[hb_glyph_info_t]) -> Self {
+    pub(crate) fn new(max_ops: i32, glyphs: &[hb_glyph_info_t]) -> Self
+        ensures { result.budget.steps ≡ min (steps_for (length glyphs.now) + result.budget.nested * 8) (2 ^ 64 - 1) }
+    {
         let nested = u32::try_from(max_ops).unwrap_or(0);
         let mut budget = Budget::new(nested, glyphs.len());
         budget.steps = budget.steps.saturating_add(u64::from(nested) * 8);
@@ -38,6 +40,9 @@ impl Work {
 
     /// Pays for glyphs that are put in, as HarfBuzz counts them in `max_ops`. The answer is false where nothing is left then.
     pub(crate) fn insert(&mut self, count: u16) -> bool
+        ensures left { self.new.budget ≡ record self.old.budget { nested = self.old.budget.nested - count } }
+        ensures paid { result ≡ nat_lt count self.old.budget.nested }
+        ensures digest { self.new.digest ≡ self.old.digest }
         ensures spent { IsNotMore self.old.budget self.new.budget }
     {
         self.budget.nested = self.budget.nested.saturating_sub(u32::from(count));

@@ -1,7 +1,7 @@
 //! What subtables write beside the calls of the buffer: glyphs and their properties. No cluster changes by it.
 
-ghost use Rattle.std.specs.Prelude.{◌≡◌, ◌<◌, true, false, length};
-ghost use Rattle.shaping_buffer.specs.Clusters.{clusters};
+ghost use Rattle.std.specs.Prelude.{◌≡◌, ◌≢◌, ◌<◌, ℕ, true, false, length, slice_index_or};
+ghost use Rattle.shaping_buffer.specs.Clusters.{clusters, zero_glyph};
 ghost use Rattle.shaping_buffer.specs.KeepsClusters.{KeepsClusters};
 ghost use Rattle.aat_substitution.specs.Left.{IsLeftOpen};
 ghost use Rattle.ot_layout.specs.Budget.{IsNotMore};
@@ -19,7 +19,9 @@ const IGNORABLE: u16 = 0x0020;
 
 /// Puts a glyph in the place of another, with the properties that the font gives it.
 pub(crate) fn set_glyph(glyphs: &mut [hb_glyph_info_t], place: usize, glyph: u16, gdef: &Gdef)
-    ensures { clusters glyphs.new ≡ clusters glyphs.old }
+    ensures clusters { clusters glyphs.new ≡ clusters glyphs.old }
+    ensures glyph { place < length glyphs.old → (slice_index_or glyphs.new place zero_glyph).glyph_id ≡ glyph }
+    ensures others { (k : ℕ) → k ≢ place → slice_index_or glyphs.new k zero_glyph ≡ slice_index_or glyphs.old k zero_glyph }
 {
     if place < glyphs.len() {
         glyphs[place].glyph_id = u32::from(glyph);
@@ -52,6 +54,7 @@ pub(crate) fn hide_current(buffer: &mut hb_buffer_t)
 
 /// Says that shaping met a limit.
 pub(crate) fn fail(buffer: &mut hb_buffer_t)
+    ensures failed { buffer.new.shaping_failed ≡ true }
     ensures same_output { buffer.new.have_output ≡ buffer.old.have_output }
     ensures keeps { KeepsClusters buffer.old buffer.new }
 {

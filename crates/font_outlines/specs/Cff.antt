@@ -1,5 +1,5 @@
 -- The names of the glyphs of a CFF font.
-use Rattle.std.specs.Prelude.{ℕ, Bool, ◌||◌, List, Option, Some, None, ◌==◌, length, nat_le, drop, if◌then◌else◌, option_map, option_and_then}
+use Rattle.std.specs.Prelude.{ℕ, ℤ, pos, Bool, ◌||◌, List, Option, Some, None, ◌==◌, length, int_lt, nat_le, drop, unsigned_abs, if◌then◌else◌, option_map, option_and_then}
 use Rattle.font_tables.specs.Bytes.{byte_at}
 use Rattle.font_outlines.specs.Index.{index_size}
 use Rattle.font_outlines.specs.Charset.{string_number, string_of}
@@ -23,3 +23,7 @@ behind bs = option_map (λ size. drop size bs) (index_size bs)
 unfoldable pub font_strings : List ℕ → Option (List ℕ)
 font_strings cff =
     option_and_then (λ size. option_and_then behind (behind (drop size cff))) (byte_at cff 2)
+
+-- the table from an offset on, which leads nowhere where it is not positive
+abbrev pub at_offset : List ℕ → ℤ → Option (List ℕ)
+at_offset table offset = if int_lt (pos 0) offset then Some (drop (unsigned_abs offset) table) else None

@@ -9,3 +9,4 @@ pub mod StandardEncoding
 pub mod Cff
 pub mod Outlines
 pub mod Path
+pub mod Charstring

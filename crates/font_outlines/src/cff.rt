@@ -4,7 +4,7 @@
 ghost use Rattle.std.specs.Prelude.{◌≡◌};
 ghost use Rattle.std.specs.Option.{option_copied};
 ghost use Rattle.font_outlines.specs.Index.{index_count};
-ghost use Rattle.font_outlines.specs.Cff.{behind};
+ghost use Rattle.font_outlines.specs.Cff.{at_offset, behind};
 
 use crate::charset::{predefined_charset, string_number, string_of};
 use crate::charstring::{Accented, Drawing, Subroutines, draw_charstring};
@@ -170,9 +170,11 @@ fn behind(index: &[u8]) -> Option<&[u8]>
 }
 
 /// The table from an offset on; `None` where the offset is 0 or below.
-pub(crate) fn at_offset(table: &[u8], offset: i32) -> Option<&[u8]> {
+pub(crate) fn at_offset(table: &[u8], offset: i32) -> Option<&[u8]>
+    ensures { option_copied result ≡ at_offset table.now offset }
+{
     if offset > 0 {
-        Some(tail(table, offset as usize))
+        Some(tail(table, offset.unsigned_abs() as usize))
     } else {
         None
     }

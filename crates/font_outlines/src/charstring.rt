@@ -1,11 +1,10 @@
 //! The path of a glyph that a charstring draws (The Type 2 Charstring Format).
+#![tactic(auto, using(crate::proofs::SignedLemmas::signed))]
 
-ghost use Rattle.std.specs.Prelude.{◌≡◌, ◌≤◌, length};
+ghost use Rattle.std.specs.Prelude.{◌≡◌, ◌≤◌, int_div, length, option_map, pos};
+ghost use Rattle.font_outlines.specs.Charstring.{move_from};
 
-use crate::curves::{
-    alternating_curves, alternating_lines, curves, curves_and_line, flex, flex_1, horizontal_flex,
-    horizontal_flex_1, lines, lines_and_curve, parallel_curves,
-};
+use crate::curves::{draw_by, flex, flex_1, horizontal_flex, horizontal_flex_1};
 use crate::operand::{number, number_length};
 use crate::path::{Path, Point};
 use crate::subroutines::subroutine;
@@ -138,8 +137,17 @@ pub(crate) struct State {
 }
 
 impl State {
+    ghost use Rattle.std.specs.Prelude.{◌+◌, ◌-◌, ◌<◌, ◌↔◌, Some, None, IsSome, if◌then◌else◌, min, nat_le, slice_set, take};
+    ghost use Rattle.font_outlines.specs.Charstring.{behind_mask, drawn, flexed, grown, last, mask_size, stems_behind};
+    ghost use Rattle.font_outlines.specs.Path.{no_path};
+
     /// No numbers and no path.
-    pub(crate) fn new() -> State {
+    pub(crate) fn new() -> State
+        ensures numbers { result.count ≡ 0 }
+        ensures path { result.path ≡ no_path }
+        ensures stems { result.stems ≡ 0 }
+        ensures mask { result.mask_size ≡ None }
+    {
         State {
             numbers: [0; MOST_NUMBERS],
             count: 0,
@@ -150,32 +158,49 @@ impl State {
     }
 
     /// The path so far.
-    pub(crate) fn path(&self) -> Path {
+    pub(crate) fn path(&self) -> Path
+        ensures { result ≡ self.now.path }
+    {
         self.path
     }
 
     /// The numbers that no operator took yet.
     pub(crate) fn numbers(&self) -> &[i32]
-        ensures { length result.now ≤ 513 }
+        ensures is { result.now ≡ take self.now.count self.now.numbers }
+        ensures within { length result.now ≤ 513 }
     {
         &self.numbers[..self.count]
     }
 
     /// Adds to the number at a place, if there is one.
-    pub(crate) fn add(&mut self, place: usize, by: i32) {
+    pub(crate) fn add(&mut self, place: usize, by: i32)
+        ensures grown { self.new.numbers ≡ grown self.old.numbers self.old.count place by }
+        ensures count { self.new.count ≡ self.old.count }
+        ensures path { self.new.path ≡ self.old.path }
+    {
         if place < self.count {
             self.numbers[place] = self.numbers[place].saturating_add(by);
         }
     }
 
     /// Drops so many of the last numbers; `None` where there are fewer.
-    pub(crate) fn drop_last(&mut self, count: usize) -> Option<()> {
+    pub(crate) fn drop_last(&mut self, count: usize) -> Option<()>
+        ensures enough { IsSome result ↔ (count ≤ self.old.count) }
+        ensures count { self.new.count ≡ (if nat_le count self.old.count then self.old.count - count else self.old.count) }
+        ensures numbers { self.new.numbers ≡ self.old.numbers }
+        ensures path { self.new.path ≡ self.old.path }
+    {
         self.count = self.count.checked_sub(count)?;
         Some(())
     }
 
     /// Takes a number; `None` where there are too many.
-    fn push(&mut self, number: i32) -> Option<()> {
+    fn push(&mut self, number: i32) -> Option<()>
+        ensures room { IsSome result ↔ (self.old.count < 513) }
+        ensures count { self.new.count ≡ min (self.old.count + 1) 513 }
+        ensures pushed { self.old.count < 513 → self.new.numbers ≡ slice_set self.old.numbers self.old.count number }
+        ensures path { self.new.path ≡ self.old.path }
+    {
         if self.count < MOST_NUMBERS {
             self.numbers[self.count] = number;
             self.count += 1;
@@ -186,7 +211,12 @@ impl State {
     }
 
     /// Gives the last number back.
-    pub(crate) fn pop(&mut self) -> Option<i32> {
+    pub(crate) fn pop(&mut self) -> Option<i32>
+        ensures last { result ≡ last self.old.numbers self.old.count }
+        ensures count { self.new.count ≡ self.old.count - 1 }
+        ensures numbers { self.new.numbers ≡ self.old.numbers }
+        ensures path { self.new.path ≡ self.old.path }
+    {
         if self.count == 0 {
             None
         } else {
@@ -238,12 +268,22 @@ impl State {
     }
 
     /// Counts the stem hints that the numbers are, two each.
-    fn count_stems(&mut self) {
+    fn count_stems(&mut self)
+        ensures stems { self.new.stems ≡ stems_behind self.old.stems self.old.count }
+        ensures count { self.new.count ≡ self.old.count }
+        ensures mask { self.new.mask_size ≡ self.old.mask_size }
+        ensures path { self.new.path ≡ self.old.path }
+    {
         self.stems = self.stems.saturating_add(self.count as u32 / 2);
     }
 
     /// What follows a mask of the hints. A mask that is cut short is none.
-    fn behind_mask<'a>(&mut self, code: &'a [u8]) -> &'a [u8] {
+    fn behind_mask<'a>(&mut self, code: &'a [u8]) -> &'a [u8]
+        ensures mask { self.new.mask_size ≡ Some (mask_size self.old.mask_size self.new.stems) }
+        ensures stems { self.old.mask_size ≡ None → self.new.stems ≡ stems_behind self.old.stems self.old.count }
+        ensures behind { result.now ≡ behind_mask code.now (mask_size self.old.mask_size self.new.stems) }
+        ensures path { self.new.path ≡ self.old.path }
+    {
         if self.mask_size.is_none() {
             self.count_stems();
         }
@@ -258,28 +298,28 @@ impl State {
     }
 
     /// An operator that draws, of one byte. One that is unknown does nothing.
-    fn draw(&mut self, operator: u8) -> Option<()> {
+    #[tactic(auto, using(crate::proofs::SignedLemmas::signed), unfolding(crate::specs::Charstring::drawn))]
+    fn draw(&mut self, operator: u8) -> Option<()>
+        ensures { option_map (λ _. self.new.path) result ≡ drawn operator self.old.path (take self.old.count self.old.numbers) }
+    {
         let numbers = &self.numbers[..self.count];
         let path = &mut self.path;
         match operator {
-            4 | 21 | 22 => move_to(path, operator, numbers)?,
-            5 => lines(path, numbers),
-            6 => alternating_lines(path, numbers, true),
-            7 => alternating_lines(path, numbers, false),
-            8 => curves(path, numbers),
-            24 => curves_and_line(path, numbers),
-            25 => lines_and_curve(path, numbers),
-            26 => parallel_curves(path, numbers, false),
-            27 => parallel_curves(path, numbers, true),
-            30 => alternating_curves(path, numbers, false),
-            31 => alternating_curves(path, numbers, true),
-            _ => {}
+            4 | 21 | 22 => move_to(path, operator, numbers),
+            _ => {
+                draw_by(path, operator, numbers);
+                Some(())
+            }
         }
-        Some(())
     }
 
     /// An operator of two bytes, by the second. One that is unknown does nothing.
-    fn flex(&mut self, operator: u8) -> Option<()> {
+    #[tactic(auto, using(crate::proofs::SignedLemmas::signed), unfolding(crate::specs::Charstring::flexed))]
+    fn flex(&mut self, operator: u8) -> Option<()>
+        ensures is { option_map (λ _. self.new.path) result ≡ flexed operator self.old.path (take self.old.count self.old.numbers) }
+        ensures count { self.new.count ≡ self.old.count }
+        ensures numbers { self.new.numbers ≡ self.old.numbers }
+    {
         let numbers = &self.numbers[..self.count];
         let path = &mut self.path;
         match operator {
@@ -299,14 +339,23 @@ impl State {
                 x: i64::from(self.numbers[last]),
                 y: i64::from(self.numbers[last + 1]),
             },
-            base: self.numbers[last + 2] / UNIT,
-            accent: self.numbers[last + 3] / UNIT,
+            base: whole_units(self.numbers[last + 2]),
+            accent: whole_units(self.numbers[last + 3]),
         })
     }
 }
 
+/// A number without its fraction, in font units.
+fn whole_units(number: i32) -> i32
+    ensures { result ≡ int_div number (pos 65536) }
+{
+    number / UNIT
+}
+
 /// `rmoveto`, `hmoveto` and `vmoveto`, which take their numbers from the end: the glyph's width may stand before them.
-fn move_to(path: &mut Path, operator: u8, numbers: &[i32]) -> Option<()> {
+fn move_to(path: &mut Path, operator: u8, numbers: &[i32]) -> Option<()>
+    ensures { option_map (λ _. path.new) result ≡ move_from operator path.old numbers.now }
+{
     let last = numbers.len().checked_sub(1)?;
     let number = i64::from(numbers[last]);
     let by = match operator {

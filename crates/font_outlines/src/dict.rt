@@ -1,4 +1,9 @@
 //! DICT data (The Compact Font Format Specification, "DICT Data").
+#![tactic(auto, using(crate::proofs::SignedLemmas::signed))]
+
+ghost use Rattle.std.specs.Prelude.{◌≡◌, ◌+◌, ◌-◌, ◌^◌, ◌<◌, ◌≤◌, ◌↔◌, Some, IfNone, IfSome, IsSome, length, min, option_map};
+ghost use Rattle.std.specs.Option.{option_copied};
+ghost use Rattle.font_outlines.specs.Operand.{behind_real, behind_token, real_end, said, takes, token};
 
 use crate::operand::{number, number_length};
 use font_tables::bytes::{tail, u8_at, u32_at};
@@ -67,20 +72,37 @@ impl Dict {
     }
 
     /// Takes the numbers before an operator; `None` where it has too few.
-    fn set(&mut self, operator: u16, numbers: Numbers) -> Option<()> {
+    fn set(&mut self, operator: u16, numbers: Numbers) -> Option<()>
+        ensures enough { IsSome result ↔ (takes operator ≤ numbers.count) }
+        ensures said { IsSome result → self.new ≡ said self.old operator numbers }
+        ensures refused { IfNone result (self.new ≡ self.old) }
+    {
+        if numbers.count < takes(operator) {
+            return None;
+        }
+        self.say(operator, numbers);
+        Some(())
+    }
+
+    /// What an operator says by the numbers before it.
+    fn say(&mut self, operator: u16, numbers: Numbers)
+        ensures { self.new ≡ said self.old operator numbers }
+    {
         match operator {
-            15 => self.charset = numbers.one()?,
-            17 => self.char_strings = numbers.one()?,
-            18 => (self.private_size, self.private_offset) = numbers.two()?,
-            19 => self.subroutines = numbers.one()?,
+            15 => self.charset = numbers.last,
+            17 => self.char_strings = numbers.last,
+            18 => {
+                self.private_size = numbers.before;
+                self.private_offset = numbers.last;
+            }
+            19 => self.subroutines = numbers.last,
             22 => self.variation_set = numbers.last,
             24 => self.variation_store = numbers.last,
             ESCAPED_ROS => self.is_cid = true,
-            ESCAPED_FD_ARRAY => self.font_dicts = numbers.one()?,
-            ESCAPED_FD_SELECT => self.font_dict_select = numbers.one()?,
+            ESCAPED_FD_ARRAY => self.font_dicts = numbers.last,
+            ESCAPED_FD_SELECT => self.font_dict_select = numbers.last,
             _ => {}
         }
-        Some(())
     }
 }
 
@@ -94,31 +116,31 @@ const ESCAPED_FD_ARRAY: u16 = 292;
 const ESCAPED_FD_SELECT: u16 = 293;
 
 impl Numbers {
-    fn push(&mut self, number: i32) {
+    fn push(&mut self, number: i32)
+        ensures { self.new ≡ record { count = min (self.old.count + 1) (2 ^ 64 - 1); last = number; before = self.old.last } }
+    {
         self.before = self.last;
         self.last = number;
         self.count = self.count.saturating_add(1);
     }
+}
 
-    fn one(self) -> Option<i32> {
-        if self.count < 1 {
-            None
-        } else {
-            Some(self.last)
-        }
-    }
-
-    fn two(self) -> Option<(i32, i32)> {
-        if self.count < 2 {
-            None
-        } else {
-            Some((self.before, self.last))
-        }
+/// How many numbers an operator takes, of those that are read.
+fn takes(operator: u16) -> usize
+    ensures { result ≡ takes operator }
+{
+    match operator {
+        18 => 2,
+        15 | 17 | 19 | ESCAPED_FD_ARRAY | ESCAPED_FD_SELECT => 1,
+        _ => 0,
     }
 }
 
 /// The number or operator at the front of DICT data, and what follows it.
-fn next_token(data: &[u8]) -> Option<(Token, &[u8])> {
+fn next_token(data: &[u8]) -> Option<(Token, &[u8])>
+    ensures is { option_map (λ t. t.0) result ≡ token data.now }
+    ensures behind { IfSome result (λ t. Some t.1.now ≡ behind_token data.now) }
+{
     let first = u8_at(data, 0)?;
     match first {
         12 => {
@@ -136,10 +158,19 @@ fn next_token(data: &[u8]) -> Option<(Token, &[u8])> {
     }
 }
 
-/// What follows a real number, which ends at a half byte of ones. No operator that outlines need takes one.
-fn behind_real(data: &[u8]) -> Option<&[u8]> {
-    let end = data
-        .iter()
-        .position(|byte| byte / 16 == 15 || byte % 16 == 15)?;
+/// What follows a real number. No operator that outlines need takes one.
+fn behind_real(data: &[u8]) -> Option<&[u8]>
+    ensures { option_copied result ≡ behind_real data.now }
+{
+    let end = real_end(data)?;
     Some(tail(data, end + 1))
+}
+
+/// Where a real number ends: at the first half byte of ones.
+fn real_end(data: &[u8]) -> Option<usize>
+    ensures is { result ≡ real_end data.now }
+    ensures within { IfSome result (λ end. end < length data.now) }
+{
+    data.iter()
+        .position(|byte| byte / 16 == 15 || byte % 16 == 15)
 }

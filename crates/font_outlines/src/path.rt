@@ -1,5 +1,7 @@
 //! The path that a charstring draws, and its bounds.
 
+ghost use Rattle.std.specs.Prelude.{◌≡◌};
+
 /// A point, or how far it is from one point to another, in 65,536ths of a font unit.
 #[derive(Clone, Copy)]
 pub struct Point {
@@ -10,10 +12,15 @@ pub struct Point {
 }
 
 impl Point {
+    ghost use Rattle.font_outlines.specs.Path.{moved, to};
+
     /// The point that lies so far from this one.
     ///
     /// Numbers of a charstring are below 2³¹, and its steps are at most 200,000: so no sum is cut off at the limits.
-    pub(crate) fn moved(self, by: Point) -> Point {
+    #[tactic(auto, using(crate::proofs::SignedLemmas::signed))]
+    pub(crate) fn moved(self, by: Point) -> Point
+        ensures { result ≡ moved self by }
+    {
         Point {
             x: self.x.saturating_add(by.x),
             y: self.y.saturating_add(by.y),
@@ -21,7 +28,10 @@ impl Point {
     }
 
     /// How far it is from this point to another.
-    pub(crate) fn to(self, other: Point) -> Point {
+    #[tactic(auto, using(crate::proofs::SignedLemmas::signed))]
+    pub(crate) fn to(self, other: Point) -> Point
+        ensures { result ≡ to self other }
+    {
         Point {
             x: other.x.saturating_sub(self.x),
             y: other.y.saturating_sub(self.y),
@@ -39,8 +49,7 @@ pub struct Bounds {
 }
 
 impl Bounds {
-    ghost use Rattle.std.specs.Prelude.{◌≡◌};
-    ghost use Rattle.font_outlines.specs.Path.{including, is_empty};
+    ghost use Rattle.font_outlines.specs.Path.{including, is_empty, merged, moved_box};
 
     /// The box around no point: from the greatest coordinate down to the least, as HarfBuzz has it.
     pub(crate) const EMPTY: Bounds = Bounds {
@@ -78,7 +87,9 @@ impl Bounds {
     }
 
     /// The least box around this one and another, where an empty box counts for nothing.
-    pub(crate) fn merged(self, other: Bounds) -> Bounds {
+    pub(crate) fn merged(self, other: Bounds) -> Bounds
+        ensures { result ≡ merged self other }
+    {
         if self.is_empty() {
             other
         } else if other.is_empty() {
@@ -89,7 +100,9 @@ impl Bounds {
     }
 
     /// The box that lies so far from this one; an empty one stays.
-    pub(crate) fn moved(self, by: Point) -> Bounds {
+    pub(crate) fn moved(self, by: Point) -> Bounds
+        ensures { result ≡ moved_box self by }
+    {
         if self.is_empty() {
             self
         } else {
@@ -113,6 +126,8 @@ pub(crate) struct Path {
 }
 
 impl Path {
+    ghost use Rattle.font_outlines.specs.Path.{curve, line, move_by, opened};
+
     /// A path that begins at the glyph's origin.
     pub(crate) const EMPTY: Path = Path {
         point: Point { x: 0, y: 0 },
@@ -121,27 +136,37 @@ impl Path {
     };
 
     /// Moves to a point without drawing.
-    pub(crate) fn move_by(&mut self, by: Point) {
+    pub(crate) fn move_by(&mut self, by: Point)
+        ensures { self.new ≡ move_by self.old by }
+    {
         self.is_open = false;
         self.point = self.point.moved(by);
     }
 
     /// Draws a line.
-    pub(crate) fn line_by(&mut self, by: Point) {
+    #[tactic(auto, unfolding(crate::specs::Path::line))]
+    pub(crate) fn line_by(&mut self, by: Point)
+        ensures { self.new ≡ line self.old by }
+    {
         self.open();
         self.point = self.point.moved(by);
         self.bounds = self.bounds.including(self.point);
     }
 
     /// Draws a curve by way of two points that control it, each as it lies from the point before.
-    pub(crate) fn curve_by(&mut self, first: Point, second: Point, end: Point) {
+    #[tactic(auto, unfolding(crate::specs::Path::curve))]
+    pub(crate) fn curve_by(&mut self, first: Point, second: Point, end: Point)
+        ensures { self.new ≡ curve self.old first second end }
+    {
         self.line_by(first);
         self.line_by(second);
         self.line_by(end);
     }
 
     /// Begins to draw at the current point.
-    fn open(&mut self) {
+    fn open(&mut self)
+        ensures { self.new ≡ opened self.old }
+    {
         if !self.is_open {
             self.is_open = true;
             self.bounds = self.bounds.including(self.point);

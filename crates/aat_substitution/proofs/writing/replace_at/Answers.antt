@@ -4,4 +4,4 @@ use Rattle.aat_substitution.proofs.writing.replace_at.Goals as goal
 pub returns-clause-keeps : goal.returns-clause-keeps
 returns-clause-keeps c =
     keeps_with_input c.args.buffer.now c.set_glyph.new.glyphs c.info_slice_mut.result.now c.info_slice_mut.ensures.value
-    c.set_glyph.ensures
+    c.set_glyph.ensures.clusters
