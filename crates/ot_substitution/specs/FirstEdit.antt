@@ -1,5 +1,5 @@
 -- What a lookup of `GSUB` does at the cursor: the edit of the first of its subtables that has one.
-use Rattle.std.specs.Prelude.{◌≡◌, ◌⊎◌, ◌==◌, ◌&&◌, ◌||◌, ℕ, Bool, true, false, not, List, [], ◌∷◌, drop, Option, None, Some, IsTrue, is_some, nat_lt, option_and_then}
+use Rattle.std.specs.Prelude.{◌≡◌, ◌⊎◌, ◌<◌, ◌≤◌, ◌+◌, ◌/◌, ◌==◌, ◌&&◌, ◌||◌, ℕ, Bool, true, false, not, List, [], ◌∷◌, drop, Option, None, Some, IsTrue, is_some, nat_lt, option_and_then}
 use Rattle.font_tables.specs.declared.coverage.Coverage.{Coverage}
 use Rattle.ot_contexts.specs.Context.{context_rule}
 use Rattle.ot_contexts.specs.Match.{first_ligature}
@@ -8,6 +8,7 @@ use Rattle.ot_substitution.specs.Reverse.{reverse}
 use Rattle.ot_lookups.specs.Sets.{set_at}
 use Rattle.ot_substitution.specs.Substitution.{IsMultiple, alternate_of, cursor_glyph, feature_value, replaced_by, single}
 use Rattle.glyph_digests.specs.Covered.{covered_index}
+use Rattle.ot_layout.specs.declared.budget.Budget.{Budget}
 use Rattle.ot_layout.specs.declared.search.ApplyContext.{ApplyContext}
 use Rattle.ot_substitution.specs.declared.substitution.Edit.{Edit}
 use Rattle.ot_substitution.specs.declared.substitution.Edit.TheVariants.{Replace, Choose, Multiply, Ligate, Apply, ReplaceInPlace}
@@ -89,3 +90,7 @@ IsFirstEdit coverages options ctx is_nested [] places edit = edit ≡ None
 IsFirstEdit coverages options ctx is_nested (subtable ∷ rest) places edit =
     ((is_some edit ≡ true) × IsEditOf coverages options ctx is_nested subtable places edit)
     ⊎ (IsEditOf coverages options ctx is_nested subtable [] None × IsFirstEdit coverages options ctx is_nested rest places edit)
+
+-- going over so many subtables costs a step for every 16 of them, if not all are spent
+abbrev pub HasPassed : ℕ → Budget → Budget → Type 0
+HasPassed count old new = 0 < new.steps → new.steps + count / 16 ≤ old.steps

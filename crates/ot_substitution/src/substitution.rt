@@ -3,7 +3,7 @@
 ghost use Rattle.std.specs.Prelude.{ℕ, ◌≡◌, ◌<◌, ◌≤◌, length, IfSome, IsTrue, Some, None, is_some, true, false};
 ghost use Rattle.std.specs.Prelude.{drop, option_map};
 ghost use Rattle.ot_layout.specs.Budget.{IsNotMore};
-ghost use Rattle.ot_substitution.specs.FirstEdit.{IsEditOf, IsFirstEdit, alternate_edit, cursor_index, is_of_use, ligature_edit, single_edit, ligated};
+ghost use Rattle.ot_substitution.specs.FirstEdit.{HasPassed, IsEditOf, IsFirstEdit, alternate_edit, cursor_index, is_of_use, ligature_edit, single_edit, ligated};
 ghost use Rattle.ot_contexts.specs.Match.{first_ligature, ligature_at, ligature_of};
 ghost use Rattle.ot_lookups.specs.Seconds.{AsksForOther};
 ghost use Rattle.ot_lookups.specs.NextAsked.{IsNextOf};
@@ -88,6 +88,7 @@ pub fn edit_at<'a>(
 ) -> Option<Edit<'a>>
     requires { 0 < length ctx.now.input.now }
     ensures spent { IsNotMore search.old.budget search.new.budget }
+    ensures passed { HasPassed (length (subtables_of list.now.subtables.items lookup.now)) search.old.budget search.new.budget }
     ensures first { 0 < search.new.budget.steps
         → IsFirstEdit list.now.coverages.items options.now ctx.now is_nested
         (subtables_of list.now.subtables.items lookup.now) search.new.places.items result }
