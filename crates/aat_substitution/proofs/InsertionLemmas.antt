@@ -59,11 +59,11 @@ module _ (glyphs : List ℕ) (s : State) where
       }
 
 -- one more glyph is written behind the first one
-pub one_more_behind : (glyphs xs : List ℕ) (n place glyph id : ℕ) → place ≡ n → n + 1 < length xs → id ≡ glyph_at glyphs n
+pub take-written_behind : (glyphs xs : List ℕ) (n place glyph id : ℕ) → place ≡ n → n + 1 < length xs → id ≡ glyph_at glyphs n
     → take (n + 1) xs ≡ glyph ∷ first_glyphs glyphs n
     → take (n + 1 + 1) (set xs (place + 1) id) ≡ glyph ∷ first_glyphs glyphs (n + 1)
 unfolding first_glyphs
-one_more_behind glyphs xs n place glyph id here within is so_far =
+take-written_behind glyphs xs n place glyph id here within is so_far =
     take-set_at xs (place + 1) (n + 1 + 1) id (omega arith) (omega arith)
     ∙ ap (λ k. take (k + 1) xs ++ id ∷ []) here ∙ ap (λ ys. ys ++ id ∷ []) so_far
     ∙ ap (λ v. glyph ∷ (first_glyphs glyphs n ++ v ∷ [])) is
