@@ -1,23 +1,23 @@
 // Written by tools/plain_rust from crates/ot_positions. Do not edit.
 
-//! Where glyphs stand by a font besides its lookups: advances and origins, marks and spaces that a font does not place itself, the
-//! space of Apple's table `trak`, and glyphs that are not to be seen.
+//! Where glyphs stand by a font besides its lookups: advances and origins, spaces that a font has no glyph for, the space of Apple's
+//! table `trak`, the classes of marks, and glyphs that are not to be seen.
 
 mod cluster_flags;
 mod ending;
-mod fallback_marks;
 mod fallback_spaces;
 mod glyph_info;
 mod kept_positions;
-mod mark_placing;
-mod mark_stack;
+mod mark_classes;
 mod positions;
 mod tracking;
 mod widths;
 
 pub use cluster_flags::{propagate_flags, share_flags};
 pub use ending::{hide_ignorables, mark_given_up, show_variation_selectors};
-pub use fallback_marks::{position_marks, recategorize_marks};
-pub use positions::position_glyphs;
+pub use mark_classes::recategorize_marks;
+pub use positions::{position_glyphs, set_position};
 pub use tracking::track;
-pub use widths::{zero_mark_widths, zero_width_default_ignorables, zero_width_deleted_glyphs};
+pub use widths::{
+    zero_mark_width, zero_mark_widths, zero_width_default_ignorables, zero_width_deleted_glyphs,
+};

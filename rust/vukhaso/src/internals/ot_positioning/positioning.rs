@@ -9,9 +9,10 @@ use crate::memory::AllocError;
 use crate::ot_attachments::position_finish_offsets;
 use crate::ot_map::OtShapePlan;
 use crate::ot_plan::{Step, TextPlan, Watch};
+use crate::ot_positioning::fallback_marks::position_marks;
 use crate::ot_positioning::lookups::position_by_lookups;
 use crate::ot_positions::{
-    position_glyphs, position_marks, track, zero_mark_widths, zero_width_default_ignorables,
+    position_glyphs, track, zero_mark_widths, zero_width_default_ignorables,
     zero_width_deleted_glyphs,
 };
 use crate::script_shapers::ZeroWidthMarks;

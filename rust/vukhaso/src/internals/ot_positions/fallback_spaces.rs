@@ -15,9 +15,15 @@ use crate::ot_positions::glyph_info::has_ligated;
 use crate::ot_positions::kept_positions::FontPositions;
 use crate::script_items::glyph_info::{is_unicode_space, space_fallback};
 
-/// The advance of a glyph, of which the font says `own`. If it stands for a space that the font has no
-/// glyph for, the kind of the space decides: it is a part of an em, or that of another character. A
-/// space of no such kind that has the buffer's invisible glyph is a quarter of an em.
+/// Whether an item may be a space that the font has no glyph for, if the text has some: a space that no
+/// lookup made from several glyphs.
+pub(crate) fn is_fallback_space(info: &hb_glyph_info_t, has_spaces: bool) -> bool {
+    has_spaces && is_unicode_space(info) && !has_ligated(info)
+}
+
+/// The advance of a space that the font may have no glyph for; of its glyph the font says `own`. The
+/// kind of the space decides: it is a part of an em, or that of another character. A space of no such
+/// kind that has the buffer's invisible glyph is a quarter of an em.
 ///
 /// # Requires
 ///
@@ -28,9 +34,6 @@ pub(crate) fn space_advance<F: FontFunctions>(
     positions: &mut FontPositions<F>,
     invisible: Option<GlyphId>,
 ) -> Result<i32, AllocError> {
-    if !is_unicode_space(info) || has_ligated(info) {
-        return Ok(own);
-    }
     let is_horizontal = positions.is_horizontal;
     let em = em_along(positions.face, is_horizontal);
     let is_invisible = invisible.is_some_and(|glyph| u32::from(glyph.0) == info.glyph_id);

@@ -9,7 +9,7 @@ use crate::common::GlyphId;
 use crate::font_face::Face;
 use crate::font_functions::FontFunctions;
 use crate::memory::AllocError;
-use crate::ot_positions::fallback_spaces::space_advance;
+use crate::ot_positions::fallback_spaces::{is_fallback_space, space_advance};
 use crate::ot_positions::kept_positions::FontPositions;
 
 /// Gives each glyph the font's advance at the size of its face, and in vertical lines its vertical
@@ -28,8 +28,8 @@ use crate::ot_positions::kept_positions::FontPositions;
 /// # Proved
 ///
 /// ```text
-/// ensures advances { is_horizontal buffer.old.direction ≡ true → has_no_fallback_spaces buffer.old ≡ true
-///     → IfOk result (λ _. IfSome buffer.new.positions (AreAdvanced (F.may_advance font.now) buffer.old.input)) }
+/// ensures advances { is_horizontal buffer.old.direction ≡ true → IfOk result (λ _. IfSome buffer.new.positions
+///     (AreAdvanced (F.may_advance font.now) (has_fallback_spaces buffer.old) buffer.old.input)) }
 /// ensures rest { buffer.new ≡ record buffer.old { positions = buffer.new.positions } }
 /// ensures closed { buffer.new.have_output ≡ false }
 /// ensures placed { IsSome buffer.new.positions }
@@ -99,11 +99,15 @@ fn position_of<F: FontFunctions>(
     invisible: Option<GlyphId>,
 ) -> Result<GlyphPosition, AllocError> {
     let mut position = positions.position(glyph_of(info))?;
-    if !may_be_space {
+    let is_space = is_fallback_space(info, may_be_space);
+    if !is_space {
         return Ok(position);
     }
-    let advance = advance_of(&mut position, positions.is_horizontal);
-    *advance = space_advance(info, *advance, positions, invisible)?;
+    if positions.is_horizontal {
+        position.x_advance = space_advance(info, position.x_advance, positions, invisible)?;
+        return Ok(position);
+    }
+    position.y_advance = space_advance(info, position.y_advance, positions, invisible)?;
     Ok(position)
 }
 
@@ -151,10 +155,19 @@ fn glyph_of(info: &hb_glyph_info_t) -> GlyphId {
 ///
 /// # Requires
 ///
+/// Positions, and that no output is open.
+///
 /// - `closed: buffer.old.have_output ≡ false`
 /// - `placed: IsSome buffer.old.positions`
+///
+/// # Proved
+///
+/// ```text
+/// ensures is { buffer.new ≡ position_changed (λ _. position) place buffer.old }
+/// ensures placed { IsSome buffer.new.positions }
+/// ```
 #[inline(always)]
-fn set_position(buffer: &mut hb_buffer_t, place: usize, position: GlyphPosition) {
+pub fn set_position(buffer: &mut hb_buffer_t, place: usize, position: GlyphPosition) {
     debug_assert!(!buffer.have_output());
     debug_assert!(buffer.have_positions());
     set_in(buffer.pos_mut(), place, position);
@@ -165,14 +178,5 @@ fn set_position(buffer: &mut hb_buffer_t, place: usize, position: GlyphPosition)
 fn set_in(positions: &mut [GlyphPosition], place: usize, position: GlyphPosition) {
     if place < positions.len() {
         positions[place] = position;
-    }
-}
-
-/// The advance in the direction of the line.
-fn advance_of(position: &mut GlyphPosition, is_horizontal: bool) -> &mut i32 {
-    if is_horizontal {
-        &mut position.x_advance
-    } else {
-        &mut position.y_advance
     }
 }

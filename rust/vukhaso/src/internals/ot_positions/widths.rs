@@ -58,8 +58,15 @@ fn narrow(positions: &mut [GlyphPosition], place: usize, adjusts: bool) {
     }
 }
 
-/// Takes the advance of a mark.
-pub(crate) fn zero_mark_width(position: &mut GlyphPosition, adjusts: bool) {
+/// Takes the advance of a mark; moves the mark back by it if `adjusts` says so.
+///
+/// # Proved
+///
+/// ```text
+/// ensures { position.new ≡ without_advance adjusts position.old }
+/// ```
+#[inline]
+pub fn zero_mark_width(position: &mut GlyphPosition, adjusts: bool) {
     if adjusts {
         position.x_offset = position.x_offset.wrapping_sub(position.x_advance);
         position.y_offset = position.y_offset.wrapping_sub(position.y_advance);

@@ -1,4 +1,4 @@
-// Written by tools/plain_rust from crates/ot_positions. Do not edit.
+// Written by tools/plain_rust from crates/ot_positioning. Do not edit.
 
 //! Where marks stand around a base, by the bounds of both and by combining classes.
 
@@ -6,7 +6,7 @@ use crate::buffer::{GlyphPosition, hb_glyph_info_t};
 use crate::common::Direction;
 use crate::glyph::GlyphExtents;
 use crate::ot_layout::ligature_parts::{ligature_component, ligature_id};
-use crate::ot_positions::mark_stack::{across, stack_up};
+use crate::ot_positioning::mark_stack::{across, stack_up};
 use crate::script_items::item::modified_combining_class;
 
 /// A number that no combining class has.

@@ -1,4 +1,4 @@
-// Written by tools/plain_rust from crates/ot_positions. Do not edit.
+// Written by tools/plain_rust from crates/ot_positioning. Do not edit.
 
 //! A mark beside, under or over others, by the bounds of all and by the mark's combining class (Unicode Standard, "Combining Classes").
 
