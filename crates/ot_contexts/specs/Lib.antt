@@ -1,6 +1,7 @@
 pub mod Asked
 pub mod Context
 pub mod Match
+pub mod MatchPositions
 pub mod Neighbours
 pub mod Pattern
 pub mod Reach

@@ -21,6 +21,9 @@ use ot_lookups::lookup_list::LookupList;
 use ot_lookups::subtable::{NextAsked, Subtable};
 use rb_glyph::hb_glyph_info_t;
 
+/// How deep lookups may apply others (HarfBuzz, `HB_MAX_NESTING_LEVEL`).
+pub const MAX_NESTING_LEVEL: u32 = 64;
+
 /// A rule that fits at the cursor. The places of its glyphs are in `Search::places`.
 #[derive(Clone, Copy)]
 pub struct Fit<'a> {

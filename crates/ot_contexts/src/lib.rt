@@ -6,6 +6,7 @@
 
 mod asked;
 pub mod context;
+pub mod match_positions;
 pub mod matching;
 pub mod neighbours;
 pub mod rule;

@@ -8,7 +8,6 @@ pub mod BufferLemmas
 pub mod ChangesLemmas
 pub mod EditsLemmas
 pub mod LigaturesLemmas
-pub mod MatchPositionsLemmas
 pub mod NestedLemmas
 pub mod Rows
 pub mod PutOutLemmas

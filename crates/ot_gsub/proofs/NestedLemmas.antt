@@ -10,9 +10,9 @@ use Rattle.ot_contexts.specs.declared.context.SequenceLookupRecord.{SequenceLook
 use Rattle.shaping_buffer.specs.State.{State, len, lookahead_len}
 use Rattle.shaping_buffer.specs.Step.{Outcome, move_to}
 use Rattle.ot_gsub.specs.Edits.{Gives, GivesOrWants}
-use Rattle.ot_gsub.specs.MatchPositions.{Match, match_of}
+use Rattle.ot_contexts.specs.MatchPositions.{Match, match_of}
 use Rattle.ot_gsub.specs.Nested.{Applies, AreDone, IsBehind, IsFitDone, IsFollowed, IsRecordDone, IsRest, Now, both_len, is_there, now_of, records_from}
-use Rattle.ot_gsub.specs.declared.match_positions.Matched.{Matched}
+use Rattle.ot_contexts.specs.declared.match_positions.Matched.{Matched}
 use Rattle.ot_gsub.specs.declared.nested.Step.{Step}
 use Rattle.ot_gsub.specs.declared.nested.Turn.{Turn}
 use Rattle.ot_gsub.specs.declared.nested.Turn.TheVariants.{On, Enough, Refused}

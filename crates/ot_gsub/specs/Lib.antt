@@ -3,7 +3,6 @@ pub mod Edits
 pub mod Ligatures
 pub mod Nested
 pub mod Open
-pub mod MatchPositions
 pub mod Properties
 pub mod Runs
 pub mod Singles

@@ -7,7 +7,7 @@ use Rattle.ot_contexts.specs.declared.context.SequenceLookupRecord.{SequenceLook
 use Rattle.shaping_buffer.specs.State.{State}
 use Rattle.shaping_buffer.specs.ClusterStep.{unsafe_to_break_from_outbuffer}
 use Rattle.shaping_buffer.specs.Step.{move_to}
-use Rattle.ot_gsub.specs.MatchPositions.{Match, followed, is_behind, is_full, match_at}
+use Rattle.ot_contexts.specs.MatchPositions.{Match, followed, is_behind, is_full, match_at}
 use Rattle.ot_gsub.specs.declared.nested.Step.{Step}
 use Rattle.ot_gsub.specs.declared.nested.Step.TheVariants as steps
 use Rattle.ot_gsub.specs.declared.nested.Turn.{Turn}

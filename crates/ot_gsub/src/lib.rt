@@ -5,7 +5,6 @@
 #![tactic(auto, using(shaping_buffer::proofs::ClosedKeepsLemmas::kept))]
 
 mod ligation;
-mod match_positions;
 mod multiplication;
 mod nested;
 mod properties;

@@ -4,7 +4,7 @@ ghost use Rattle.std.specs.Prelude.{◌≡◌, ◌+◌, ◌<◌, ◌≤◌, true
 ghost use Rattle.ot_layout.specs.Budget.{IsNotMore};
 ghost use Rattle.ot_gsub.specs.Changes.{glyph_numbers};
 ghost use Rattle.ot_gsub.specs.Edits.{GivesOrWants};
-ghost use Rattle.ot_gsub.specs.MatchPositions.{followed, is_full, match_of};
+ghost use Rattle.ot_contexts.specs.MatchPositions.{followed, is_full, match_of};
 ghost use Rattle.ot_gsub.specs.Open.{IsLeftOpen};
 ghost use Rattle.ot_gsub.specs.Nested as lookups;
 ghost use Rattle.ot_gsub.specs.Nested.{IsFitDone, IsRecordDone, now_of};
@@ -16,19 +16,16 @@ ghost use Rattle.shaping_buffer.specs.Step.{move_to};
 ghost use Rattle.shaping_passes.specs.Refusals.{IsRefusal};
 
 use crate::ligation::ligate;
-use crate::match_positions::Matched;
 use crate::multiplication::{choose, multiply, replace};
 use crate::substitution::{Progress, Substitutions};
 use crate::writing::{fail, glyph_ahead};
-use ot_contexts::context::{Fit, SequenceLookupRecord};
+use ot_contexts::context::{Fit, MAX_NESTING_LEVEL, SequenceLookupRecord};
+use ot_contexts::match_positions::Matched;
 use ot_layout::{ApplyContext, LookupOptions, Reach, SkippingIterator};
 use ot_lookups::Lookup;
 use ot_substitution::substitution::{Edit, edit_at};
 use shaping_buffer::hb_buffer_t;
 use std::alloc::AllocError;
-
-/// How deep lookups may apply others (HarfBuzz, `HB_MAX_NESTING_LEVEL`).
-pub(crate) const MAX_NESTING_LEVEL: u32 = 64;
 
 /// What became of a lookup at the cursor.
 #[derive(Clone, Copy, PartialEq, Eq)]

@@ -13,10 +13,11 @@ ghost use Rattle.ot_gsub.specs.Singles.{GoesOn, HasMoved, IsForNext, IsLevel, Is
 ghost use Rattle.shaping_buffer.specs.KeepsClusters.{KeepsClusters};
 ghost use Rattle.shaping_passes.specs.Refusals.{IsRefusal};
 
-use crate::nested::{MAX_NESTING_LEVEL, Step, apply_at};
+use crate::nested::{Step, apply_at};
 use crate::reverse::substitute_reverse;
 use crate::writing::fail;
 use font_tables::gdef::Gdef;
+use ot_contexts::context::MAX_NESTING_LEVEL;
 use ot_layout::budget::PASSED_A_STEP;
 use ot_layout::{Budget, LookupOptions, Search};
 use ot_lookups::{Lookup, LookupList};

@@ -6,7 +6,6 @@
 //! What a lookup does at a glyph is decided by `ot_layout`; here it is done, by the calls of the buffer alone.
 
 mod ligation;
-mod match_positions;
 mod multiplication;
 mod nested;
 mod properties;

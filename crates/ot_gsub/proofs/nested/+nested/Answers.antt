@@ -7,7 +7,7 @@ use Rattle.shaping_buffer.specs.KeepsClusters.{KeepsClusters}
 use Rattle.shaping_buffer.specs.State.{State}
 use Rattle.shaping_buffer.specs.Step.{move_to}
 use Rattle.ot_gsub.specs.Changes.{glyph_numbers}
-use Rattle.ot_gsub.specs.MatchPositions.{match_of}
+use Rattle.ot_contexts.specs.MatchPositions.{match_of}
 use Rattle.ot_gsub.specs.Nested.{IsRecordDone, Now, now_of}
 use Rattle.ot_gsub.specs.Turn.{nested}
 use Rattle.ot_gsub.specs.declared.nested.Step.{Step}

@@ -1,7 +1,7 @@
 use Rattle.std.proofs.Common.{◌≡◌, ◌+◌, ◌*◌, ◌<◌, Bool, true}
 use Rattle.shaping_buffer.specs.KeepsClusters.{KeepsClusters}
 use Rattle.ot_layout.specs.Budget.{IsNotMore}
-use Rattle.ot_gsub.specs.MatchPositions.{match_of}
+use Rattle.ot_contexts.specs.MatchPositions.{match_of}
 use Rattle.ot_gsub.specs.Nested.{IsFitDone, Now, now_of}
 use Rattle.ot_gsub.specs.Turn.{nested}
 use Rattle.ot_gsub.proofs.NestedLemmas.{Left}

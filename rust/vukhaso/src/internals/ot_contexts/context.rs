@@ -13,6 +13,9 @@ use crate::ot_layout::skipping_iterator::Skip;
 use crate::ot_lookups::lookup_list::LookupList;
 use crate::ot_lookups::subtable::{NextAsked, Subtable};
 
+/// How deep lookups may apply others (HarfBuzz, `HB_MAX_NESTING_LEVEL`).
+pub const MAX_NESTING_LEVEL: u32 = 64;
+
 /// A rule that fits at the cursor. The places of its glyphs are in `Search::places`.
 #[derive(Clone, Copy, Debug)]
 pub struct Fit<'a> {

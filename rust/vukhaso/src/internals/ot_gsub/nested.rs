@@ -4,18 +4,15 @@
 
 use crate::buffer::hb_buffer_t;
 use crate::memory::AllocError;
-use crate::ot_contexts::context::{Fit, SequenceLookupRecord};
+use crate::ot_contexts::context::{Fit, MAX_NESTING_LEVEL, SequenceLookupRecord};
+use crate::ot_contexts::match_positions::Matched;
 use crate::ot_gsub::ligation::ligate;
-use crate::ot_gsub::match_positions::Matched;
 use crate::ot_gsub::multiplication::{choose, multiply, replace};
 use crate::ot_gsub::substitution::{Progress, Substitutions};
 use crate::ot_gsub::writing::{fail, glyph_ahead};
 use crate::ot_layout::{ApplyContext, LookupOptions, Reach, SkippingIterator};
 use crate::ot_lookups::Lookup;
 use crate::ot_substitution::substitution::{Edit, edit_at};
-
-/// How deep lookups may apply others (HarfBuzz, `HB_MAX_NESTING_LEVEL`).
-pub(crate) const MAX_NESTING_LEVEL: u32 = 64;
 
 /// What became of a lookup at the cursor.
 #[derive(Clone, Copy, PartialEq, Eq, Debug)]

@@ -5,7 +5,8 @@
 use crate::buffer::hb_buffer_t;
 use crate::font_tables::gdef::Gdef;
 use crate::memory::AllocError;
-use crate::ot_gsub::nested::{MAX_NESTING_LEVEL, Step, apply_at};
+use crate::ot_contexts::context::MAX_NESTING_LEVEL;
+use crate::ot_gsub::nested::{Step, apply_at};
 use crate::ot_gsub::reverse::substitute_reverse;
 use crate::ot_gsub::writing::fail;
 use crate::ot_layout::budget::PASSED_A_STEP;

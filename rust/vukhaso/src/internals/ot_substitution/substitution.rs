@@ -70,6 +70,7 @@ pub struct Ligation {
 ///
 /// ```text
 /// ensures spent { IsNotMore search.old.budget search.new.budget }
+/// ensures passed { HasPassed (length (subtables_of list.now.subtables.items lookup.now)) search.old.budget search.new.budget }
 /// ensures first { 0 < search.new.budget.steps
 ///     → IsFirstEdit list.now.coverages.items options.now ctx.now is_nested
 ///     (subtables_of list.now.subtables.items lookup.now) search.new.places.items result }

@@ -1,7 +1,7 @@
 use Rattle.std.proofs.Common.{arith}
-use Rattle.ot_gsub.specs.MatchPositions.{match_of}
-use Rattle.ot_gsub.proofs.MatchPositionsLemmas.{followed-shrunk, followed_by_grow, on_by_grow}
-use Rattle.ot_gsub.proofs.match_positions.Matched.follow.Goals as goal
+use Rattle.ot_contexts.specs.MatchPositions.{match_of}
+use Rattle.ot_contexts.proofs.MatchPositionsLemmas.{followed-shrunk, followed_by_grow, on_by_grow}
+use Rattle.ot_contexts.proofs.match_positions.Matched.follow.Goals as goal
 
 pub returns-then-after-before-clause-follows : goal.returns-then-after-before-clause-follows
 returns-then-after-before-clause-follows c =

@@ -1,7 +1,7 @@
 -- The places of a match after a lookup that it applied put glyphs in, or took some out.
 use Rattle.std.specs.Prelude.{◌≡◌, ℕ, ◌+◌, ◌-◌, ◌^◌, ◌<◌, ◌&&◌, Bool, List, length, map, max, min, nat_le, nat_lt, slice_index, if◌then◌else◌}
 use Rattle.std.specs.List.{range_with_len}
-use Rattle.ot_gsub.specs.declared.match_positions.Matched.{Matched}
+use Rattle.ot_contexts.specs.declared.match_positions.Matched.{Matched}
 
 -- a place that moves up; none is more than 64 bits hold
 abbrev pub moved_up : ℕ → ℕ → ℕ

@@ -1,4 +1,4 @@
-// Written by tools/plain_rust from crates/ot_gsub. Do not edit.
+// Written by tools/plain_rust from crates/ot_contexts. Do not edit.
 
 //! The glyphs of a match while lookups are applied to them: their places follow glyphs that are put in or taken out.
 
@@ -88,16 +88,23 @@ fn all_moved_up(places: &[usize], by: usize) -> MatchPositions {
 
 /// The glyphs of a match, by their places in both sides as one list.
 #[derive(Debug)]
-pub(crate) struct Matched {
+pub struct Matched {
     /// The places of the glyphs.
-    places: MatchPositions,
+    pub places: MatchPositions,
     /// Where the match ends.
-    pub(crate) end: usize,
+    pub end: usize,
 }
 
 impl Matched {
     /// The match with these places and this end, counted from a cursor that so many glyphs stand before.
-    pub(crate) fn new(places: &MatchPositions, end: usize, before: usize) -> Self {
+    ///
+    /// # Proved
+    ///
+    /// ```text
+    /// ensures { match_of result ≡ match_at before places.now.items end }
+    /// ```
+    #[inline]
+    pub fn new(places: &MatchPositions, end: usize, before: usize) -> Self {
         Matched {
             places: all_moved_up(places.as_slice(), before),
             end: before.saturating_add(end),
@@ -105,12 +112,26 @@ impl Matched {
     }
 
     /// The place of the glyph of this number.
-    pub(crate) fn place(&self, number: usize) -> Option<usize> {
+    ///
+    /// # Proved
+    ///
+    /// ```text
+    /// ensures { result ≡ slice_get self.now.places.items number }
+    /// ```
+    #[inline]
+    pub fn place(&self, number: usize) -> Option<usize> {
         self.places.get(number).copied()
     }
 
     /// Whether the glyph of this number stands behind the end of the match.
-    pub(crate) fn is_behind(&self, number: usize) -> bool {
+    ///
+    /// # Proved
+    ///
+    /// ```text
+    /// ensures { result ≡ is_behind self.now.places.items self.now.end number }
+    /// ```
+    #[inline]
+    pub fn is_behind(&self, number: usize) -> bool {
         match self.places.get(number) {
             Some(place) => *place >= self.end,
             None => false,
@@ -127,7 +148,15 @@ impl Matched {
     /// # Requires
     ///
     /// - `number < length self.old.places.items`
-    pub(crate) fn follow(&mut self, number: usize, before: usize, after: usize) -> bool {
+    ///
+    /// # Proved
+    ///
+    /// ```text
+    /// ensures follows { match_of self.new ≡ followed (match_of self.old) number before after }
+    /// ensures on { result ≡ not (is_full (match_of self.old) before after) }
+    /// ```
+    #[inline]
+    pub fn follow(&mut self, number: usize, before: usize, after: usize) -> bool {
         if after < before {
             self.shrink(number, before - after);
             return true;

@@ -1,7 +1,7 @@
 //! The glyphs of a match while lookups are applied to them: their places follow glyphs that are put in or taken out.
 
 ghost use Rattle.std.specs.Prelude.{◌≡◌, ◌+◌, ◌-◌, ◌<◌, ◌≤◌, length, map, max, min, nat_le, not, slice_get, slice_index, true};
-ghost use Rattle.ot_gsub.specs.MatchPositions.{followed, grown_place, is_behind, is_full, match_at, match_of, moved_up, places_by, shrunk_place};
+ghost use Rattle.ot_contexts.specs.MatchPositions.{followed, grown_place, is_behind, is_full, match_at, match_of, moved_up, places_by, shrunk_place};
 
 use ot_layout::MatchPositions;
 
@@ -77,16 +77,16 @@ fn all_moved_up(places: &[usize], by: usize) -> MatchPositions
 
 /// The glyphs of a match, by their places in both sides as one list.
 #[derive(Drop)]
-pub(crate) struct Matched {
+pub struct Matched {
     /// The places of the glyphs.
-    places: MatchPositions,
+    pub places: MatchPositions,
     /// Where the match ends.
-    pub(crate) end: usize,
+    pub end: usize,
 }
 
 impl Matched {
     /// The match with these places and this end, counted from a cursor that so many glyphs stand before.
-    pub(crate) fn new(places: &MatchPositions, end: usize, before: usize) -> Self
+    pub fn new(places: &MatchPositions, end: usize, before: usize) -> Self
         ensures { match_of result ≡ match_at before places.now.items end }
     {
         Matched {
@@ -96,14 +96,14 @@ impl Matched {
     }
 
     /// The place of the glyph of this number.
-    pub(crate) fn place(&self, number: usize) -> Option<usize>
+    pub fn place(&self, number: usize) -> Option<usize>
         ensures { result ≡ slice_get self.now.places.items number }
     {
         self.places.get(number).copied()
     }
 
     /// Whether the glyph of this number stands behind the end of the match.
-    pub(crate) fn is_behind(&self, number: usize) -> bool
+    pub fn is_behind(&self, number: usize) -> bool
         ensures { result ≡ is_behind self.now.places.items self.now.end number }
     {
         match self.places.get(number) {
@@ -116,7 +116,7 @@ impl Matched {
     /// before and have so many after it. Where there would be more places than a match has, the answer is false.
     ///
     /// HarfBuzz takes it that glyphs were put in, or taken out, right after the one that the lookup was applied to.
-    pub(crate) fn follow(&mut self, number: usize, before: usize, after: usize) -> bool
+    pub fn follow(&mut self, number: usize, before: usize, after: usize) -> bool
         requires { number < length self.old.places.items }
         ensures follows { match_of self.new ≡ followed (match_of self.old) number before after }
         ensures on { result ≡ not (is_full (match_of self.old) before after) }

@@ -5,7 +5,7 @@ use Rattle.std.proofs.lemmas.List.{ext_get_or, length-map}
 use Rattle.std.proofs.lemmas.List.FromFn.{get_or-map-range_with_len, length-range_with_len}
 use Rattle.std.specs.List.{range_with_len}
 use Rattle.std.specs.Prelude.{slice_index, nat_le, nat_lt, max, min, not, ◌&&◌}
-use Rattle.ot_gsub.specs.MatchPositions.{AreAll, Match, followed, followed_end, followed_places, grown_place, is_full, moved_up, places_by, shrunk_place}
+use Rattle.ot_contexts.specs.MatchPositions.{AreAll, Match, followed, followed_end, followed_places, grown_place, is_full, moved_up, places_by, shrunk_place}
 
 pub all_by : (f : ℕ → ℕ) (count : ℕ) (xs : List ℕ) → AreAll f count xs → xs ≡ places_by f count
 all_by f count xs are =

@@ -1,0 +1,6 @@
+use Rattle.std.proofs.Common.{rules}
+use Rattle.ot_contexts.proofs.MatchPositionsLemmas.{all_by}
+use Rattle.ot_contexts.proofs.match_positions.grown.Goals as goal
+
+pub returns : goal.returns
+returns c = all_by _ _ _ (search rules)

@@ -1,6 +1,0 @@
-use Rattle.std.proofs.Common.{rules}
-use Rattle.ot_gsub.proofs.MatchPositionsLemmas.{all_by}
-use Rattle.ot_gsub.proofs.match_positions.grown.Goals as goal
-
-pub returns : goal.returns
-returns c = all_by _ _ _ (search rules)
