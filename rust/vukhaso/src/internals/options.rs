@@ -11,5 +11,6 @@ pub mod options;
 pub mod output;
 mod sizes;
 pub mod synthetic;
+mod values;
 pub mod variations;
 pub mod words;

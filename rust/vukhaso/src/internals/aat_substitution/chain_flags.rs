@@ -84,7 +84,9 @@ impl ChainFlags {
     ///
     /// # Proved
     ///
-    /// That it returns.
+    /// ```text
+    /// ensures { result ≡ vec_len self.now.ends }
+    /// ```
     #[inline]
     pub fn part_count(&self) -> usize {
         self.ends.len()
@@ -104,7 +106,9 @@ impl ChainFlags {
     ///
     /// # Proved
     ///
-    /// That it returns.
+    /// ```text
+    /// ensures { result ≡ flags_in self.now chain part }
+    /// ```
     #[inline]
     pub fn flags(&self, chain: usize, part: usize) -> u32 {
         let place = part.saturating_mul(self.chain_count).saturating_add(chain);

@@ -4,6 +4,7 @@
 //! `feature_mappings`; Apple's TrueType Reference Manual, "Font feature registry").
 
 use crate::common::Tag;
+use crate::glyph::row_search::row_at;
 
 /// A feature of OpenType, and the feature of Apple's that stands for it.
 #[derive(Clone, Copy, PartialEq, Eq, Debug)]
@@ -19,7 +20,7 @@ pub struct FeatureMapping {
 }
 
 /// The features, in the order of their tags: the tag, the type of Apple's feature, and the settings that turn it on and off.
-const FEATURES: [(u32, u16, u16, u16); 78] = [
+static FEATURES: [(u32, u16, u16, u16); 78] = [
     (0x61667263, 11, 1, 0),   // afrc
     (0x63327063, 38, 2, 0),   // c2pc
     (0x63327363, 38, 1, 0),   // c2sc
@@ -105,16 +106,25 @@ const FEATURES: [(u32, u16, u16, u16); 78] = [
 /// # Proved
 ///
 /// ```text
-/// ensures { IfSome result (λ mapping. mapping.tag ≡ tag) }
+/// ensures is { result ≡ mapping_of tag }
+/// ensures tag { IfSome result (λ mapping. mapping.tag ≡ tag) }
 /// ```
 #[inline]
 pub fn mapping_of(tag: Tag) -> Option<FeatureMapping> {
-    let place = FEATURES.binary_search_by_key(&tag.0, |row| row.0).ok()?;
-    let (_, kind, enable, disable) = FEATURES[place];
+    let (kind, enable, disable) = settings_of(&FEATURES, tag.0)?;
     Some(FeatureMapping {
         tag,
         kind,
         enable,
         disable,
     })
+}
+
+/// What the row of a tag holds.
+///
+/// # Requires
+///
+/// - `IsTrue (tags_rise rows.now)`
+fn settings_of(rows: &[(u32, u16, u16, u16)], tag: u32) -> Option<(u16, u16, u16)> {
+    row_at(rows, |row| row.0.cmp(&tag)).map(|row| (row.1, row.2, row.3))
 }

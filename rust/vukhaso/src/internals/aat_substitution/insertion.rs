@@ -45,6 +45,13 @@ struct Inserted<'a> {
     is_before: bool,
 }
 
+impl Inserted<'_> {
+    /// The glyph at a place of the list.
+    fn glyph_at(&self, place: u16) -> u32 {
+        u32::from(u16_at(self.glyphs, 2 * usize::from(place)).unwrap_or(0))
+    }
+}
+
 /// The glyphs of a subtable, and the place of the marked glyph.
 #[derive(Clone, Copy, Debug)]
 pub(crate) struct Insertion<'a> {
@@ -213,17 +220,43 @@ fn mark_break(buffer: &mut hb_buffer_t, from: usize) {
 /// `Ok(false)` where the buffer refused a call for length.
 fn insert(buffer: &mut hb_buffer_t, inserted: &Inserted) -> Result<bool, AllocError> {
     debug_assert!(buffer.have_output());
-    let has_current = buffer.lookahead_len() > 0;
-    if has_current && !inserted.is_before {
-        return insert_behind(buffer, inserted);
+    if buffer.lookahead_len() == 0 || inserted.is_before {
+        return insert_before(buffer, inserted);
     }
-    for number in 0..inserted.count {
-        let glyph = u16_at(inserted.glyphs, 2 * usize::from(number)).unwrap_or(0);
-        if !buffer.output_glyph(u32::from(glyph))? {
+    insert_behind(buffer, inserted)
+}
+
+/// Puts glyphs out before the current glyph.
+///
+/// # Requires
+///
+/// - `buffer.old.have_output ≡ true`
+///
+/// # Errors
+///
+/// `Ok(false)` where the buffer refused a call for length.
+fn insert_before(buffer: &mut hb_buffer_t, inserted: &Inserted) -> Result<bool, AllocError> {
+    debug_assert!(buffer.have_output());
+    for place in 0..inserted.count {
+        if !put_one(buffer, inserted, place)? {
             return Ok(false);
         }
     }
     Ok(true)
+}
+
+/// Puts a glyph of the list out.
+///
+/// # Requires
+///
+/// - `buffer.old.have_output ≡ true`
+///
+/// # Errors
+///
+/// `Ok(false)` where the buffer refused a call for length.
+fn put_one(buffer: &mut hb_buffer_t, inserted: &Inserted, place: u16) -> Result<bool, AllocError> {
+    debug_assert!(buffer.have_output());
+    buffer.output_glyph(inserted.glyph_at(place))
 }
 
 /// Puts the current glyph out, and glyphs behind it.
@@ -239,10 +272,16 @@ fn insert(buffer: &mut hb_buffer_t, inserted: &Inserted) -> Result<bool, AllocEr
 fn insert_behind(buffer: &mut hb_buffer_t, inserted: &Inserted) -> Result<bool, AllocError> {
     debug_assert!(buffer.have_output());
     debug_assert!(!buffer.info().is_empty());
-    let mut ids = [buffer.cur(0).glyph_id; 32];
+    let ids = glyphs_behind(buffer.cur(0).glyph_id, inserted);
     let count = usize::from(inserted.count).min(31);
-    for number in 0..count {
-        ids[number + 1] = u32::from(u16_at(inserted.glyphs, 2 * number).unwrap_or(0));
-    }
     buffer.replace_glyphs(1, count + 1, &ids)
+}
+
+/// A glyph, and those that are put in behind it.
+fn glyphs_behind(glyph: u32, inserted: &Inserted) -> [u32; 32] {
+    let mut glyphs = [glyph; 32];
+    for place in 0..inserted.count.min(31) {
+        glyphs[usize::from(place) + 1] = inserted.glyph_at(place);
+    }
+    glyphs
 }

@@ -191,13 +191,7 @@ impl<'a> Ligature<'a> {
         if buffer.lookahead_len() == 0 {
             return None;
         }
-        let offset = action & OFFSET;
-        let offset = if offset & OFFSET_SIGN != 0 {
-            offset | !OFFSET
-        } else {
-            offset
-        };
-        let place = buffer.cur(0).glyph_id.wrapping_add(offset);
+        let place = component_of(buffer.cur(0).glyph_id, action);
         u16_at(self.components, place as usize * 2)
     }
 
@@ -235,6 +229,16 @@ impl<'a> Ligature<'a> {
         }
         merge(buffer, self.place(component));
         Ok(true)
+    }
+}
+
+/// The number of a glyph among components, by an action, whose offset may be negative.
+fn component_of(glyph: u32, action: u32) -> u32 {
+    let offset = action & OFFSET;
+    if offset & OFFSET_SIGN != 0 {
+        glyph.wrapping_add(offset | !OFFSET)
+    } else {
+        glyph.wrapping_add(offset)
     }
 }
 

@@ -186,7 +186,7 @@ fn behind(index: &[u8]) -> Option<&[u8]> {
 /// The table from an offset on; `None` where the offset is 0 or below.
 pub(crate) fn at_offset(table: &[u8], offset: i32) -> Option<&[u8]> {
     if offset > 0 {
-        Some(tail(table, offset as usize))
+        Some(tail(table, offset.unsigned_abs() as usize))
     } else {
         None
     }

@@ -2,10 +2,7 @@
 
 //! The path of a glyph that a charstring draws (The Type 2 Charstring Format).
 
-use crate::font_outlines::curves::{
-    alternating_curves, alternating_lines, curves, curves_and_line, flex, flex_1, horizontal_flex,
-    horizontal_flex_1, lines, lines_and_curve, parallel_curves,
-};
+use crate::font_outlines::curves::{draw_by, flex, flex_1, horizontal_flex, horizontal_flex_1};
 use crate::font_outlines::operand::{number, number_length};
 use crate::font_outlines::path::{Path, Point};
 use crate::font_outlines::subroutines::subroutine;
@@ -259,20 +256,12 @@ impl State {
         let numbers = &self.numbers[..self.count];
         let path = &mut self.path;
         match operator {
-            4 | 21 | 22 => move_to(path, operator, numbers)?,
-            5 => lines(path, numbers),
-            6 => alternating_lines(path, numbers, true),
-            7 => alternating_lines(path, numbers, false),
-            8 => curves(path, numbers),
-            24 => curves_and_line(path, numbers),
-            25 => lines_and_curve(path, numbers),
-            26 => parallel_curves(path, numbers, false),
-            27 => parallel_curves(path, numbers, true),
-            30 => alternating_curves(path, numbers, false),
-            31 => alternating_curves(path, numbers, true),
-            _ => {}
+            4 | 21 | 22 => move_to(path, operator, numbers),
+            _ => {
+                draw_by(path, operator, numbers);
+                Some(())
+            }
         }
-        Some(())
     }
 
     /// An operator of two bytes, by the second. One that is unknown does nothing.
@@ -296,10 +285,15 @@ impl State {
                 x: i64::from(self.numbers[last]),
                 y: i64::from(self.numbers[last + 1]),
             },
-            base: self.numbers[last + 2] / UNIT,
-            accent: self.numbers[last + 3] / UNIT,
+            base: whole_units(self.numbers[last + 2]),
+            accent: whole_units(self.numbers[last + 3]),
         })
     }
+}
+
+/// A number without its fraction, in font units.
+fn whole_units(number: i32) -> i32 {
+    number / UNIT
 }
 
 /// `rmoveto`, `hmoveto` and `vmoveto`, which take their numbers from the end: the glyph's width may

@@ -6,15 +6,32 @@
 
 use crate::font_outlines::path::{Path, Point};
 
+/// An operator of one byte that draws. One that is unknown does nothing.
+pub(crate) fn draw_by(path: &mut Path, operator: u8, numbers: &[i32]) {
+    match operator {
+        5 => lines(path, numbers),
+        6 => alternating_lines(path, numbers, true),
+        7 => alternating_lines(path, numbers, false),
+        8 => curves(path, numbers),
+        24 => curves_and_line(path, numbers),
+        25 => lines_and_curve(path, numbers),
+        26 => parallel_curves(path, numbers, false),
+        27 => parallel_curves(path, numbers, true),
+        30 => alternating_curves(path, numbers, false),
+        31 => alternating_curves(path, numbers, true),
+        _ => {}
+    }
+}
+
 /// `rlineto`: lines.
-pub(crate) fn lines(path: &mut Path, numbers: &[i32]) {
+fn lines(path: &mut Path, numbers: &[i32]) {
     for line in 0..numbers.len() / 2 {
         path.line_by(pair(numbers, 2 * line));
     }
 }
 
 /// `hlineto` and `vlineto`: lines that are horizontal and vertical in turn.
-pub(crate) fn alternating_lines(path: &mut Path, numbers: &[i32], is_horizontal: bool) {
+fn alternating_lines(path: &mut Path, numbers: &[i32], is_horizontal: bool) {
     let mut is_horizontal = is_horizontal;
     for &number in numbers {
         path.line_by(turned(is_horizontal, i64::from(number), 0));
@@ -23,71 +40,97 @@ pub(crate) fn alternating_lines(path: &mut Path, numbers: &[i32], is_horizontal:
 }
 
 /// `rrcurveto`: curves.
-pub(crate) fn curves(path: &mut Path, numbers: &[i32]) {
+fn curves(path: &mut Path, numbers: &[i32]) {
     for curve in 0..numbers.len() / 6 {
         draw_curve(path, numbers, 6 * curve);
     }
 }
 
 /// `rcurveline`: curves, and a line.
-pub(crate) fn curves_and_line(path: &mut Path, numbers: &[i32]) {
-    if numbers.len() >= 8 {
-        let count = (numbers.len() - 2) / 6;
-        for curve in 0..count {
-            draw_curve(path, numbers, 6 * curve);
-        }
-        path.line_by(pair(numbers, 6 * count));
+fn curves_and_line(path: &mut Path, numbers: &[i32]) {
+    if numbers.len() < 8 {
+        return;
     }
+    let count = (numbers.len() - 2) / 6;
+    for curve in 0..count {
+        draw_curve(path, numbers, 6 * curve);
+    }
+    path.line_by(pair(numbers, 6 * count));
 }
 
 /// `rlinecurve`: lines, and a curve.
-pub(crate) fn lines_and_curve(path: &mut Path, numbers: &[i32]) {
-    if numbers.len() >= 8 {
-        let count = (numbers.len() - 6) / 2;
-        for line in 0..count {
-            path.line_by(pair(numbers, 2 * line));
-        }
-        draw_curve(path, numbers, 2 * count);
+fn lines_and_curve(path: &mut Path, numbers: &[i32]) {
+    if numbers.len() < 8 {
+        return;
     }
+    let count = (numbers.len() - 6) / 2;
+    for line in 0..count {
+        path.line_by(pair(numbers, 2 * line));
+    }
+    draw_curve(path, numbers, 2 * count);
 }
 
 /// `hhcurveto` and `vvcurveto`: curves that begin and end in one direction, with a number before them
 /// for how far the first one begins across it.
-pub(crate) fn parallel_curves(path: &mut Path, numbers: &[i32], is_horizontal: bool) {
+fn parallel_curves(path: &mut Path, numbers: &[i32], is_horizontal: bool) {
     let start = numbers.len() % 2;
-    let mut across = if start == 1 { number(numbers, 0) } else { 0 };
     for curve in 0..(numbers.len() - start) / 4 {
         let place = start + 4 * curve;
         path.curve_by(
-            turned(is_horizontal, number(numbers, place), across),
+            turned(
+                is_horizontal,
+                number(numbers, place),
+                across_first(numbers, curve),
+            ),
             pair(numbers, place + 1),
             turned(is_horizontal, number(numbers, place + 3), 0),
         );
-        across = 0;
+    }
+}
+
+/// How far a curve of `hhcurveto` begins across its direction: by a number before all where it is the
+/// first.
+fn across_first(numbers: &[i32], curve: usize) -> i64 {
+    if numbers.len() % 2 == 1 && curve == 0 {
+        number(numbers, 0)
+    } else {
+        0
     }
 }
 
 /// `hvcurveto` and `vhcurveto`: curves that begin and end in different directions, of which each goes
 /// on as the one before it ended, with a number behind them for how far the last one ends across its
 /// direction.
-pub(crate) fn alternating_curves(path: &mut Path, numbers: &[i32], is_horizontal: bool) {
-    let count = numbers.len() / 4;
-    let has_last = 4 * count < numbers.len() && (count % 2 == 1 || numbers.len() % 2 == 1);
+fn alternating_curves(path: &mut Path, numbers: &[i32], is_horizontal: bool) {
     let mut is_horizontal = is_horizontal;
-    for curve in 0..count {
+    for curve in 0..numbers.len() / 4 {
         let place = 4 * curve;
-        let is_last = curve + 1 == count && has_last;
-        let across = if is_last {
-            number(numbers, place + 4)
-        } else {
-            0
-        };
         path.curve_by(
             turned(is_horizontal, number(numbers, place), 0),
             pair(numbers, place + 1),
-            turned(!is_horizontal, number(numbers, place + 3), across),
+            turned(
+                !is_horizontal,
+                number(numbers, place + 3),
+                across_last(numbers, curve),
+            ),
         );
         is_horizontal = !is_horizontal;
+    }
+}
+
+/// How far a curve of `hvcurveto` ends across its direction: by a number behind all where it is the
+/// last.
+///
+/// # Requires
+///
+/// - `curve < length numbers.now / 4`
+fn across_last(numbers: &[i32], curve: usize) -> i64 {
+    let count = numbers.len() / 4;
+    let has_last = 4 * count < numbers.len() && (count % 2 == 1 || numbers.len() % 2 == 1);
+    if curve + 1 == count && has_last {
+        number(numbers, 4 * curve + 4)
+    } else {
+        0
     }
 }
 
@@ -158,13 +201,17 @@ pub(crate) fn flex_1(path: &mut Path, numbers: &[i32]) -> Option<()> {
     let (first, second) = (pair(numbers, 6), pair(numbers, 8));
     let far = start.to(path.point.moved(first).moved(second));
     let last = number(numbers, 10);
-    let end = if far.x.unsigned_abs() > far.y.unsigned_abs() {
+    path.curve_by(first, second, last_of_flex_1(far, last));
+    Some(())
+}
+
+/// How the second curve of `flex1` ends, which has come so far from the start.
+fn last_of_flex_1(far: Point, last: i64) -> Point {
+    if far.x.unsigned_abs() > far.y.unsigned_abs() {
         turned(true, last, far.y.saturating_neg())
     } else {
         turned(false, last, far.x.saturating_neg())
-    };
-    path.curve_by(first, second, end);
-    Some(())
+    }
 }
 
 /// Draws the curve of the six numbers from a place on.

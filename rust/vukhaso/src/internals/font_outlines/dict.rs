@@ -71,19 +71,30 @@ impl Dict {
 
     /// Takes the numbers before an operator; `None` where it has too few.
     fn set(&mut self, operator: u16, numbers: Numbers) -> Option<()> {
+        if numbers.count < takes(operator) {
+            return None;
+        }
+        self.say(operator, numbers);
+        Some(())
+    }
+
+    /// What an operator says by the numbers before it.
+    fn say(&mut self, operator: u16, numbers: Numbers) {
         match operator {
-            15 => self.charset = numbers.one()?,
-            17 => self.char_strings = numbers.one()?,
-            18 => (self.private_size, self.private_offset) = numbers.two()?,
-            19 => self.subroutines = numbers.one()?,
+            15 => self.charset = numbers.last,
+            17 => self.char_strings = numbers.last,
+            18 => {
+                self.private_size = numbers.before;
+                self.private_offset = numbers.last;
+            }
+            19 => self.subroutines = numbers.last,
             22 => self.variation_set = numbers.last,
             24 => self.variation_store = numbers.last,
             ESCAPED_ROS => self.is_cid = true,
-            ESCAPED_FD_ARRAY => self.font_dicts = numbers.one()?,
-            ESCAPED_FD_SELECT => self.font_dict_select = numbers.one()?,
+            ESCAPED_FD_ARRAY => self.font_dicts = numbers.last,
+            ESCAPED_FD_SELECT => self.font_dict_select = numbers.last,
             _ => {}
         }
-        Some(())
     }
 }
 
@@ -102,21 +113,14 @@ impl Numbers {
         self.last = number;
         self.count = self.count.saturating_add(1);
     }
+}
 
-    fn one(self) -> Option<i32> {
-        if self.count < 1 {
-            None
-        } else {
-            Some(self.last)
-        }
-    }
-
-    fn two(self) -> Option<(i32, i32)> {
-        if self.count < 2 {
-            None
-        } else {
-            Some((self.before, self.last))
-        }
+/// How many numbers an operator takes, of those that are read.
+fn takes(operator: u16) -> usize {
+    match operator {
+        18 => 2,
+        15 | 17 | 19 | ESCAPED_FD_ARRAY | ESCAPED_FD_SELECT => 1,
+        _ => 0,
     }
 }
 
@@ -139,11 +143,14 @@ fn next_token(data: &[u8]) -> Option<(Token, &[u8])> {
     }
 }
 
-/// What follows a real number, which ends at a half byte of ones. No operator that outlines need takes
-/// one.
+/// What follows a real number. No operator that outlines need takes one.
 fn behind_real(data: &[u8]) -> Option<&[u8]> {
-    let end = data
-        .iter()
-        .position(|byte| byte / 16 == 15 || byte % 16 == 15)?;
+    let end = real_end(data)?;
     Some(tail(data, end + 1))
+}
+
+/// Where a real number ends: at the first half byte of ones.
+fn real_end(data: &[u8]) -> Option<usize> {
+    data.iter()
+        .position(|byte| byte / 16 == 15 || byte % 16 == 15)
 }

@@ -11,6 +11,7 @@ use crate::options::features::{features, unquoted};
 use crate::options::output::{Output, output_of};
 use crate::options::sizes::{one_or_two, sizes};
 use crate::options::synthetic::{Synthetic, synthetic_of};
+use crate::options::values::{level_of, refuse_functions, refuse_load_flags, refuse_loader};
 use crate::options::variations::{value, variations};
 
 /// Why the words of a command line ask for nothing that can be done.
@@ -233,25 +234,10 @@ fn font_choice<'a>(matches: &ArgMatches<'a>) -> Result<FontChoice, OptionsError<
 
 /// Refuses the values of options that are there for HarfBuzz's sake alone, unless they change nothing.
 fn refuse_unsupported<'a>(matches: &ArgMatches<'a>) -> Result<(), OptionsError<'a>> {
-    let loader = matches.get_str("face-loader").unwrap_or("ot");
-    if !is_open_type(loader) {
-        return Err(OptionsError::FaceLoader(loader));
-    }
-    if let Some(flags) = matches.get_str("ft-load-flags") {
-        if flags.parse::<i32>().is_err() {
-            return Err(OptionsError::Number("ft-load-flags", flags));
-        }
-    }
-    let functions = matches.get_str("font-funcs").unwrap_or("ot");
-    if !is_open_type(functions) {
-        return Err(OptionsError::FontFuncs(functions));
-    }
+    refuse_loader(matches.get_str("face-loader"))?;
+    refuse_load_flags(matches.get_str("ft-load-flags"))?;
+    refuse_functions(matches.get_str("font-funcs"))?;
     Ok(())
-}
-
-/// Whether a reader or functions of a font are those that there are.
-fn is_open_type(name: &str) -> bool {
-    name.eq_ignore_ascii_case("ot")
 }
 
 /// The shapers, by their names.
@@ -431,19 +417,9 @@ fn glyph<'a>(
     }
 }
 
-/// How far clusters are merged. A number that is none of a level does not merge graphemes, as in
-/// HarfBuzz, so it is taken for level 1.
+/// How far clusters are merged.
 fn cluster_level<'a>(matches: &ArgMatches<'a>) -> Result<BufferClusterLevel, OptionsError<'a>> {
-    let Some(text) = matches.get_str("cluster-level") else {
-        return Ok(BufferClusterLevel::MonotoneGraphemes);
-    };
-    match text.parse::<i32>() {
-        Ok(0) => Ok(BufferClusterLevel::MonotoneGraphemes),
-        Ok(2) => Ok(BufferClusterLevel::Characters),
-        Ok(3) => Ok(BufferClusterLevel::Graphemes),
-        Ok(_) => Ok(BufferClusterLevel::MonotoneCharacters),
-        Err(_) => Err(OptionsError::Number("cluster-level", text)),
-    }
+    level_of(matches.get_str("cluster-level"))
 }
 
 /// How long an em is across and upwards.

@@ -20,18 +20,40 @@ pub struct Synthetic {
 
 /// What the words of a command line say of it.
 pub(crate) fn synthetic_of<'a>(matches: &ArgMatches<'a>) -> Result<Synthetic, OptionsError<'a>> {
-    let (bold, grade) = (matches.get_str("font-bold"), matches.get_str("font-grade"));
-    if bold.is_some() && grade.is_some() {
-        return Err(OptionsError::TwoBolds);
+    let bold = matches.get_str("font-bold");
+    let grade = matches.get_str("font-grade");
+    of_values(bold, grade, matches.get_str("font-slant"))
+}
+
+/// What the values of its options say of it.
+fn of_values<'a>(
+    bold: Option<&'a str>,
+    grade: Option<&'a str>,
+    slant: Option<&'a str>,
+) -> Result<Synthetic, OptionsError<'a>> {
+    match grade {
+        Some(grade) => {
+            if bold.is_some() {
+                return Err(OptionsError::TwoBolds);
+            }
+            let bold = strengths("font-grade", Some(grade))?;
+            let slant = number_or_0("font-slant", slant)?;
+            Ok(Synthetic {
+                bold,
+                in_place: true,
+                slant,
+            })
+        }
+        None => {
+            let bold = strengths("font-bold", bold)?;
+            let slant = number_or_0("font-slant", slant)?;
+            Ok(Synthetic {
+                bold,
+                in_place: false,
+                slant,
+            })
+        }
     }
-    Ok(Synthetic {
-        bold: match grade {
-            None => strengths("font-bold", bold)?,
-            Some(_) => strengths("font-grade", grade)?,
-        },
-        in_place: grade.is_some(),
-        slant: number_or_0("font-slant", matches.get_str("font-slant"))?,
-    })
 }
 
 /// The strengths across and upwards that an option asks for.
@@ -51,8 +73,11 @@ fn strengths<'a>(
 
 /// The number of an option, and 0 where it is not given.
 fn number_or_0<'a>(name: &'static str, text: Option<&'a str>) -> Result<f32, OptionsError<'a>> {
-    let Some(text) = text else {
-        return Ok(0.0);
-    };
-    value(text).ok_or(OptionsError::Size(name, text))
+    match text {
+        Some(text) => match value(text) {
+            Some(number) => Ok(number),
+            None => Err(OptionsError::Size(name, text)),
+        },
+        None => Ok(0.0),
+    }
 }

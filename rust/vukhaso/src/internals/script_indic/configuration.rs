@@ -50,7 +50,9 @@ impl IndicConfiguration {
     ///
     /// # Proved
     ///
-    /// That it returns.
+    /// ```text
+    /// ensures { result ≡ scripts.configuration script }
+    /// ```
     pub fn of(script: Option<Script>) -> IndicConfiguration {
         let Some(script) = script else {
             return default_configuration();

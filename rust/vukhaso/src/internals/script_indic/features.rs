@@ -6,7 +6,9 @@ use crate::common::{Script, Tag};
 use crate::memory::AllocError;
 use crate::ot_map::{FeatureFlags, LayoutPlan, Pause, PlanBuilder};
 use crate::script_indic::plan::{ConsonantForms, IndicMasks, IndicPlan};
-use crate::script_syllables::requests::{MANUAL_JOINERS, PER_SYLLABLE, add_all, add_in_stages};
+use crate::script_syllables::requests::{
+    MANUAL_JOINERS, PER_SYLLABLE, add_all, add_in_stages, one_mask,
+};
 
 /// The basic features, each in a stage of its own, and whether every glyph has it.
 const BASIC_FEATURES: [(&[u8; 4], bool); 11] = [
@@ -85,18 +87,21 @@ pub fn override_features(builder: &mut PlanBuilder) -> Result<(), AllocError> {
 ///
 /// # Proved
 ///
-/// That it returns.
+/// ```text
+/// ensures is { result ≡ indic_plan script layout.now.gsub_script.0 result.masks result.forms }
+/// ensures masks { AreMasks layout.now result.masks }
+/// ensures forms { AreForms layout.now result.forms }
+/// ```
 #[inline]
 pub fn plan(script: Option<Script>, layout: &LayoutPlan) -> IndicPlan {
-    let mask = |name| layout.one_mask(Tag::from_bytes(name));
     let masks = IndicMasks {
-        rphf: mask(b"rphf"),
-        pref: mask(b"pref"),
-        blwf: mask(b"blwf"),
-        abvf: mask(b"abvf"),
-        half: mask(b"half"),
-        pstf: mask(b"pstf"),
-        init: mask(b"init"),
+        rphf: one_mask(layout, b"rphf"),
+        pref: one_mask(layout, b"pref"),
+        blwf: one_mask(layout, b"blwf"),
+        abvf: one_mask(layout, b"abvf"),
+        half: one_mask(layout, b"half"),
+        pstf: one_mask(layout, b"pstf"),
+        init: one_mask(layout, b"init"),
     };
     let forms = ConsonantForms {
         pref: has_lookups(layout, b"pref"),

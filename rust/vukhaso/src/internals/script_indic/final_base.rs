@@ -5,9 +5,11 @@
 use crate::buffer::hb_glyph_info_t;
 use crate::common::script;
 use crate::script_indic::initial_order::place_at;
-use crate::script_indic::item::{behind_joiners, is_consonant, is_halant, is_one};
+use crate::script_indic::item::is_consonant;
 use crate::script_indic::plan::IndicPlan;
-use crate::script_syllables::item::{is_substituted, is_whole_ligature, position};
+use crate::script_syllables::item::{
+    behind_joiners, is_halant, is_one, is_substituted, is_whole_ligature, position,
+};
 use crate::script_syllables::{Category, Position};
 
 /// The base of a syllable after the basic features.

@@ -4,10 +4,10 @@
 
 use crate::buffer::hb_glyph_info_t;
 use crate::common::script;
-use crate::script_indic::item::{is_consonant, is_joiner};
+use crate::script_indic::item::is_consonant;
 use crate::script_indic::plan::IndicPlan;
 use crate::script_syllables::font::{FontForms, FormFeature};
-use crate::script_syllables::item::{add_mask, category, position};
+use crate::script_syllables::item::{add_mask, category, is_joiner, position};
 use crate::script_syllables::{Category, Position};
 
 /// Sets the masks of a syllable's items, by where they stand around its base.

@@ -71,7 +71,9 @@ impl IndicPlan {
     ///
     /// # Proved
     ///
-    /// That it returns.
+    /// ```text
+    /// ensures { result ≡ scripts.indic_plan script gsub_script.0 masks forms }
+    /// ```
     #[inline]
     pub fn new(
         script: Option<Script>,
@@ -93,7 +95,9 @@ impl IndicPlan {
     ///
     /// # Proved
     ///
-    /// That it returns.
+    /// ```text
+    /// ensures { result ≡ scripts.wants_no_context self.now }
+    /// ```
     #[inline]
     pub fn wants_no_context(&self) -> bool {
         !self.is_old_spec && !self.is(script::MALAYALAM)
@@ -101,7 +105,10 @@ impl IndicPlan {
 
     /// Whether the text is of a script.
     pub(crate) fn is(&self, script: Script) -> bool {
-        self.script == Some(script)
+        match self.script {
+            Some(own) => own.tag().0 == script.tag().0,
+            None => false,
+        }
     }
 
     /// What is done at a pause of a text of an Indic script.

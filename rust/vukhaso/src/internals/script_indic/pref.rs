@@ -5,10 +5,10 @@
 use crate::buffer::{hb_buffer_t, hb_glyph_info_t};
 use crate::common::script;
 use crate::script_indic::final_base::{FinalBase, masked_behind};
-use crate::script_indic::item::{is_halant, is_joiner, is_matra_or_halant};
+use crate::script_indic::item::is_matra_or_halant;
 use crate::script_indic::plan::IndicPlan;
 use crate::script_syllables::clusters::merge;
-use crate::script_syllables::item::is_whole_ligature;
+use crate::script_syllables::item::{is_halant, is_joiner, is_whole_ligature};
 use crate::script_syllables::moves::move_last;
 use crate::script_syllables::syllables::syllable;
 use core::ops::Range;

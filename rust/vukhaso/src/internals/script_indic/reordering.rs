@@ -8,13 +8,12 @@ use crate::memory::AllocError;
 use crate::script_indic::base::{Base, find_base};
 use crate::script_indic::initial_masks::{mask_pref, set_masks};
 use crate::script_indic::initial_order::set_positions;
-use crate::script_indic::item::{is_halant, is_one};
 use crate::script_indic::plan::{BROKEN, ConsonantForms, IndicPlan};
 use crate::script_indic::sorting::sort_syllable;
 use crate::script_syllables::clusters::merge;
 use crate::script_syllables::dotted_circle::{CircleKind, insert_dotted_circles};
 use crate::script_syllables::font::{FontForms, FormFeature};
-use crate::script_syllables::item::{position, set_position};
+use crate::script_syllables::item::{is_halant, is_one, position, set_position};
 use crate::script_syllables::moves::move_first;
 use crate::script_syllables::syllables::{kind_at, syllable, within};
 use crate::script_syllables::{Category, Position};
@@ -155,7 +154,9 @@ fn order_syllable<F: FontForms>(
 ) -> Result<(), AllocError> {
     debug_assert!(!buffer.have_output());
     put_joiner_first(buffer, range, plan);
-    let base = find_base(syllable(buffer.info(), range), plan, font);
+    let base = find_base(syllable(buffer.info(), range), plan, |glyphs| {
+        font.would_substitute(FormFeature::Rphf, glyphs)
+    });
     place_items(buffer, range, &base, plan);
     let base = sort_syllable(buffer, range, plan)?;
     mask_items(buffer, range, base, plan, font);

@@ -4,10 +4,10 @@
 
 use crate::buffer::{hb_buffer_t, hb_glyph_info_t};
 use crate::script_indic::configuration::RephPosition;
-use crate::script_indic::item::{is_halant, is_joiner, is_matra};
+use crate::script_indic::item::is_matra;
 use crate::script_indic::plan::IndicPlan;
 use crate::script_syllables::clusters::merge;
-use crate::script_syllables::item::{category, is_whole_ligature, position};
+use crate::script_syllables::item::{category, is_halant, is_joiner, is_whole_ligature, position};
 use crate::script_syllables::moves::move_first;
 use crate::script_syllables::syllables::syllable;
 use crate::script_syllables::{Category, Position};

@@ -54,9 +54,9 @@ pub fn keep_tied<T: Ties>(buffer: &mut hb_buffer_t, ties: &T) {
 /// - `buffer.old.have_output ≡ false`
 fn keep_first<T: Ties>(buffer: &mut hb_buffer_t, ties: &T) {
     debug_assert!(!buffer.have_output());
-    if let Some((first, anchor)) = first_tied(buffer.info(), ties) {
-        keep_together(buffer, first, anchor);
-    }
+    let infos = buffer.info();
+    let pair = first_tied(&|place| ties.tie_of(infos, place), infos.len());
+    keep_together(buffer, pair);
 }
 
 /// Marks what lies between the last anchor and the last character that hangs on it.
@@ -66,46 +66,101 @@ fn keep_first<T: Ties>(buffer: &mut hb_buffer_t, ties: &T) {
 /// - `buffer.old.have_output ≡ false`
 fn keep_last<T: Ties>(buffer: &mut hb_buffer_t, ties: &T) {
     debug_assert!(!buffer.have_output());
-    if let Some((anchor, last)) = last_tied(buffer.info(), ties) {
-        keep_together(buffer, anchor, last);
-    }
+    let infos = buffer.info();
+    let pair = last_tied(&|place| ties.tie_of(infos, place), infos.len());
+    keep_together(buffer, pair);
 }
 
-/// Marks what lies between two characters as unsafe to break, where the first stands before the second.
+/// Marks two characters, and what lies between them, as unsafe to break, if there are two.
 ///
 /// # Requires
 ///
-/// - `buffer.old.have_output ≡ false`
-fn keep_together(buffer: &mut hb_buffer_t, first: usize, last: usize) {
+/// - `closed: buffer.old.have_output ≡ false`
+/// - `within: IfSome pair (λ pair. (pair.0 < pair.1) × (pair.1 < length buffer.old.input))`
+fn keep_together(buffer: &mut hb_buffer_t, pair: Option<(usize, usize)>) {
     debug_assert!(!buffer.have_output());
-    if first < last && last < buffer.len() {
-        buffer.unsafe_to_break(Some(first), Some(last + 1));
+    if let Some((first, last)) = pair {
+        keep_between(buffer, first, last);
     }
+}
+
+/// Marks two characters, and what lies between them, as unsafe to break.
+///
+/// # Requires
+///
+/// - `closed: buffer.old.have_output ≡ false`
+/// - `order: first < last`
+/// - `within: last < length buffer.old.input`
+fn keep_between(buffer: &mut hb_buffer_t, first: usize, last: usize) {
+    debug_assert!(!buffer.have_output());
+    debug_assert!(first < last);
+    debug_assert!(last < buffer.info().len());
+    debug_assert!(last < buffer.len());
+    buffer.unsafe_to_break(Some(first), Some(last + 1));
 }
 
 /// The first character that hangs on an anchor behind it, and the first anchor.
-fn first_tied<T: Ties>(infos: &[hb_glyph_info_t], ties: &T) -> Option<(usize, usize)> {
-    let mut first = None;
-    for place in 0..infos.len() {
-        match ties.tie_of(infos, place) {
-            Tie::Anchor => return first.map(|first| (first, place)),
-            Tie::Hanging if first.is_none() => first = Some(place),
-            _ => {}
+///
+/// # Requires
+///
+/// - `F.IsAlwaysCallable tie_at.now`
+fn first_tied<F: Fn(usize) -> Tie>(tie_at: &F, count: usize) -> Option<(usize, usize)> {
+    let anchor = first_of(tie_at, Tie::Anchor, count)?;
+    let first = first_of(tie_at, Tie::Hanging, anchor)?;
+    Some((first, anchor))
+}
+
+/// The last anchor, and the last character that hangs on it behind it.
+///
+/// # Requires
+///
+/// - `F.IsAlwaysCallable tie_at.now`
+fn last_tied<F: Fn(usize) -> Tie>(tie_at: &F, count: usize) -> Option<(usize, usize)> {
+    let anchor = last_of(tie_at, Tie::Anchor, 0, count)?;
+    let last = last_of(tie_at, Tie::Hanging, anchor + 1, count)?;
+    Some((anchor, last))
+}
+
+/// The first of the places before `end` with a tie.
+///
+/// # Requires
+///
+/// - `F.IsAlwaysCallable tie_at.now`
+fn first_of<F: Fn(usize) -> Tie>(tie_at: &F, wanted: Tie, end: usize) -> Option<usize> {
+    for place in 0..end {
+        if is_same(tie_at(place), wanted) {
+            return Some(place);
         }
     }
     None
 }
 
-/// The last anchor, and the last character that hangs on it behind it.
-fn last_tied<T: Ties>(infos: &[hb_glyph_info_t], ties: &T) -> Option<(usize, usize)> {
-    let mut last = None;
-    for turn in 0..infos.len() {
-        let place = infos.len() - 1 - turn;
-        match ties.tie_of(infos, place) {
-            Tie::Anchor => return last.map(|last| (place, last)),
-            Tie::Hanging if last.is_none() => last = Some(place),
-            _ => {}
+/// The last of the places from `start` on, before `count`, with a tie.
+///
+/// # Requires
+///
+/// - `F.IsAlwaysCallable tie_at.now`
+fn last_of<F: Fn(usize) -> Tie>(
+    tie_at: &F,
+    wanted: Tie,
+    start: usize,
+    count: usize,
+) -> Option<usize> {
+    let mut end = count;
+    while end > start {
+        end -= 1;
+        if is_same(tie_at(end), wanted) {
+            return Some(end);
         }
     }
     None
+}
+
+/// Whether a tie is this one.
+fn is_same(tie: Tie, wanted: Tie) -> bool {
+    match tie {
+        Tie::Anchor => matches!(wanted, Tie::Anchor),
+        Tie::Hanging => matches!(wanted, Tie::Hanging),
+        Tie::Loose => matches!(wanted, Tie::Loose),
+    }
 }

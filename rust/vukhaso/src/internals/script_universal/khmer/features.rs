@@ -6,7 +6,7 @@ use crate::common::Tag;
 use crate::memory::AllocError;
 use crate::ot_map::{FeatureFlags, LayoutPlan, Pause, PlanBuilder};
 use crate::script_syllables::requests::{
-    MANUAL_JOINERS, PER_SYLLABLE, PRESENTATION_FEATURES, add_all,
+    MANUAL_JOINERS, PER_SYLLABLE, PRESENTATION_FEATURES, add_all, one_mask,
 };
 use crate::script_universal::khmer::plan::KhmerPlan;
 
@@ -70,15 +70,16 @@ pub fn override_features(builder: &mut PlanBuilder) -> Result<(), AllocError> {
 ///
 /// # Proved
 ///
-/// That it returns.
+/// ```text
+/// ensures { IsKhmerPlan layout.now result }
+/// ```
 #[inline]
 pub fn plan(layout: &LayoutPlan) -> KhmerPlan {
-    let mask = |name| layout.one_mask(Tag::from_bytes(name));
     KhmerPlan {
-        pref: mask(b"pref"),
-        blwf: mask(b"blwf"),
-        abvf: mask(b"abvf"),
-        pstf: mask(b"pstf"),
-        cfar: mask(b"cfar"),
+        pref: one_mask(layout, b"pref"),
+        blwf: one_mask(layout, b"blwf"),
+        abvf: one_mask(layout, b"abvf"),
+        pstf: one_mask(layout, b"pstf"),
+        cfar: one_mask(layout, b"cfar"),
     }
 }

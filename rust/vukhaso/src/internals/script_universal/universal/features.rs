@@ -6,7 +6,7 @@
 use crate::common::Tag;
 use crate::memory::AllocError;
 use crate::ot_map::{FeatureFlags, LayoutPlan, Pause, PlanBuilder};
-use crate::script_syllables::requests::{MANUAL_JOINER, PER_SYLLABLE, add_all};
+use crate::script_syllables::requests::{MANUAL_JOINER, PER_SYLLABLE, add_all, one_mask};
 use crate::script_universal::universal::plan::{FormMasks, UniversalPlan};
 
 /// The features of single letters, and whether every glyph has it.
@@ -39,6 +39,14 @@ const OTHER_FEATURES: [(&[u8; 4], bool); 5] = [
     (b"pres", true),
     (b"psts", true),
 ];
+
+/// No form.
+const NO_FORMS: FormMasks = FormMasks {
+    isol: 0,
+    init: 0,
+    medi: 0,
+    fina: 0,
+};
 
 /// An input passes over no joiner, and ends with its syllable.
 const WITHIN_SYLLABLE: FeatureFlags = FeatureFlags {
@@ -95,27 +103,43 @@ fn add_recorded_features(builder: &mut PlanBuilder) -> Result<(), AllocError> {
 ///
 /// # Proved
 ///
-/// That it returns.
+/// ```text
+/// ensures rephs { IsOneMask layout.now (codes "rphf") result.rphf }
+/// ensures letters { joins ≡ true → result.forms ≡ no_forms }
+/// ensures forms { joins ≡ false → AreFormMasks layout.now result.forms }
+/// ```
 #[inline]
 pub fn plan(joins: bool, layout: &LayoutPlan) -> UniversalPlan {
-    let forms = if joins {
-        FormMasks::default()
-    } else {
-        FormMasks {
-            isol: form_mask(layout, b"isol"),
-            init: form_mask(layout, b"init"),
-            medi: form_mask(layout, b"medi"),
-            fina: form_mask(layout, b"fina"),
-        }
-    };
+    let rphf = one_mask(layout, b"rphf");
+    if joins {
+        return UniversalPlan {
+            rphf,
+            forms: NO_FORMS,
+        };
+    }
     UniversalPlan {
-        rphf: layout.one_mask(Tag::from_bytes(b"rphf")),
-        forms,
+        rphf,
+        forms: form_masks(layout),
+    }
+}
+
+/// The masks of the forms of syllables.
+fn form_masks(layout: &LayoutPlan) -> FormMasks {
+    FormMasks {
+        isol: form_mask(layout, b"isol"),
+        init: form_mask(layout, b"init"),
+        medi: form_mask(layout, b"medi"),
+        fina: form_mask(layout, b"fina"),
     }
 }
 
 /// The mask of a form; 0 where every glyph has it.
 fn form_mask(layout: &LayoutPlan, name: &[u8; 4]) -> u32 {
-    let mask = layout.one_mask(Tag::from_bytes(name));
-    if mask == layout.global_mask { 0 } else { mask }
+    let mask = one_mask(layout, name);
+    unless_global(mask, layout.global_mask)
+}
+
+/// A mask, unless it is that of every glyph.
+fn unless_global(mask: u32, global: u32) -> u32 {
+    if mask == global { 0 } else { mask }
 }

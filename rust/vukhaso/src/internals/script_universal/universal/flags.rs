@@ -5,9 +5,8 @@
 
 use crate::buffer::{hb_buffer_t, hb_glyph_info_t};
 use crate::script_syllables::syllables::{kind_at, syllable};
-use crate::script_universal::universal::masks::joins;
+use crate::script_universal::universal::masks::{in_form, joins};
 use crate::script_universal::universal::plan::FormMasks;
-use core::ops::Range;
 
 /// A lookup that a form may have.
 pub trait FormLookup {
@@ -47,15 +46,32 @@ struct Joined {
 #[inline]
 pub fn flag_forms<L: FormLookup>(buffer: &mut hb_buffer_t, masks: &FormMasks, lookup: &L) {
     debug_assert!(!buffer.have_output());
+    flag_parted(buffer, masks, &|glyph, other| {
+        lookup.is_parted(glyph, other)
+    });
+}
+
+/// Does that, by what is asked of a lookup.
+///
+/// # Requires
+///
+/// - `closed: buffer.old.have_output ≡ false`
+/// - `callable: F.IsAlwaysCallable is_parted.now`
+fn flag_parted<F: Fn(&hb_glyph_info_t, u32) -> bool>(
+    buffer: &mut hb_buffer_t,
+    masks: &FormMasks,
+    is_parted: &F,
+) {
+    debug_assert!(!buffer.have_output());
     let mut last = None;
     let mut start = 0;
     for _turn in 0..buffer.len() {
         if start >= buffer.len() {
-            break;
+            return;
         }
         let end = buffer.next_syllable(start);
         let joined = joined_at(buffer.info(), start, end, last);
-        flag_joined(buffer, masks, lookup, last, joined);
+        flag_joined(buffer, masks, is_parted, last, joined);
         last = joined;
         start = end;
     }
@@ -83,60 +99,117 @@ fn joined_at(
 ///
 /// # Requires
 ///
-/// - `buffer.old.have_output ≡ false`
-fn flag_joined<L: FormLookup>(
+/// - `closed: buffer.old.have_output ≡ false`
+/// - `callable: F.IsAlwaysCallable is_parted.now`
+fn flag_joined<F: Fn(&hb_glyph_info_t, u32) -> bool>(
     buffer: &mut hb_buffer_t,
     masks: &FormMasks,
-    lookup: &L,
+    is_parted: &F,
     last: Option<Joined>,
     own: Option<Joined>,
 ) {
     debug_assert!(!buffer.have_output());
-    if let Some(last) = last {
-        if let Some(own) = own {
-            if last.start <= own.end
-                && own.end <= buffer.len()
-                && are_parted(buffer.info(), masks, lookup, &last, &own)
-            {
-                buffer.unsafe_to_break(Some(last.start), Some(own.end));
-            }
-        }
+    match last {
+        Some(last) => match own {
+            Some(own) => flag_pair(buffer, masks, is_parted, &last, &own),
+            None => {}
+        },
+        None => {}
     }
 }
 
-/// Whether a break between two syllables changes what the lookup is for: the first becomes the last of
-/// its word, or stands alone, and the second the first of its word, or stands alone.
-fn are_parted<L: FormLookup>(
+/// Flags two syllables that join, if a break between them changes what the lookup is for.
+///
+/// # Requires
+///
+/// - `closed: buffer.old.have_output ≡ false`
+/// - `callable: F.IsAlwaysCallable is_parted.now`
+fn flag_pair<F: Fn(&hb_glyph_info_t, u32) -> bool>(
+    buffer: &mut hb_buffer_t,
+    masks: &FormMasks,
+    is_parted: &F,
+    last: &Joined,
+    own: &Joined,
+) {
+    debug_assert!(!buffer.have_output());
+    if !lie_within(last, own, buffer.len()) {
+        return;
+    }
+    if !are_parted(buffer.info(), masks, is_parted, last, own) {
+        return;
+    }
+    buffer.unsafe_to_break(Some(last.start), Some(own.end));
+}
+
+/// Whether two syllables lie in a text of so many items.
+fn lie_within(last: &Joined, own: &Joined, count: usize) -> bool {
+    last.start <= own.end && own.end <= count
+}
+
+/// Whether a break between two syllables changes what the lookup is for, by the forms that they have
+/// before it and behind it.
+///
+/// # Requires
+///
+/// - `F.IsAlwaysCallable is_parted.now`
+fn are_parted<F: Fn(&hb_glyph_info_t, u32) -> bool>(
     infos: &[hb_glyph_info_t],
     masks: &FormMasks,
-    lookup: &L,
+    is_parted: &F,
     last: &Joined,
     own: &Joined,
 ) -> bool {
-    let before = if last.is_first {
+    let before = form_before(masks, last);
+    if is_one_parted(
+        syllable(infos, &(last.start..last.end)),
+        masks,
+        is_parted,
+        before,
+    ) {
+        return true;
+    }
+    let behind = form_behind(masks, infos, own);
+    is_one_parted(
+        syllable(infos, &(own.start..own.end)),
+        masks,
+        is_parted,
+        behind,
+    )
+}
+
+/// The mask of the form that a syllable has before a break: it becomes the last of its word, or stands
+/// alone.
+fn form_before(masks: &FormMasks, last: &Joined) -> u32 {
+    if last.is_first {
         masks.isol
     } else {
         masks.fina
-    };
-    let behind = if joins(kind_at(infos, own.end)) {
+    }
+}
+
+/// The mask of the form that a syllable has behind a break: it becomes the first of its word, or stands
+/// alone.
+fn form_behind(masks: &FormMasks, infos: &[hb_glyph_info_t], own: &Joined) -> u32 {
+    if joins(kind_at(infos, own.end)) {
         masks.init
     } else {
         masks.isol
-    };
-    is_one_parted(infos, masks, lookup, &(last.start..last.end), before)
-        || is_one_parted(infos, masks, lookup, &(own.start..own.end), behind)
+    }
 }
 
 /// Whether the lookup is for one of these glyphs only in the form that it has, or only in another one.
-fn is_one_parted<L: FormLookup>(
-    infos: &[hb_glyph_info_t],
+///
+/// # Requires
+///
+/// - `F.IsAlwaysCallable is_parted.now`
+fn is_one_parted<F: Fn(&hb_glyph_info_t, u32) -> bool>(
+    glyphs: &[hb_glyph_info_t],
     masks: &FormMasks,
-    lookup: &L,
-    range: &Range<usize>,
+    is_parted: &F,
     form: u32,
 ) -> bool {
-    for glyph in syllable(infos, range) {
-        if lookup.is_parted(glyph, glyph.mask & !masks.all() | form) {
+    for glyph in glyphs {
+        if is_parted(glyph, in_form(masks, form, glyph.mask)) {
             return true;
         }
     }

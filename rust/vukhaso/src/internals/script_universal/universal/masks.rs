@@ -100,10 +100,9 @@ fn set_forms(infos: &mut [hb_glyph_info_t], masks: &FormMasks) {
 
 /// The mask of the last syllable that was read.
 fn own_mask(form: JoiningForm, masks: &FormMasks) -> u32 {
-    if form == JoiningForm::Last {
-        masks.fina
-    } else {
-        masks.isol
+    match form {
+        JoiningForm::Last => masks.fina,
+        JoiningForm::Unformed | JoiningForm::Alone => masks.isol,
     }
 }
 
@@ -115,18 +114,39 @@ pub(crate) fn joins(kind: u8) -> bool {
 /// The form of a syllable of a kind, behind one of the form `last`.
 fn next_form(kind: u8, last: JoiningForm) -> JoiningForm {
     if !joins(kind) {
-        JoiningForm::Unformed
-    } else if last == JoiningForm::Unformed {
-        JoiningForm::Alone
-    } else {
-        JoiningForm::Last
+        return JoiningForm::Unformed;
+    }
+    match last {
+        JoiningForm::Unformed => JoiningForm::Alone,
+        JoiningForm::Alone | JoiningForm::Last => JoiningForm::Last,
     }
 }
 
 /// Gives the items from `start` to `end` the mask of a form, and takes those of the other forms.
+///
+/// # Requires
+///
+/// - `order: start ≤ end`
+/// - `within: end ≤ length infos.old`
 fn set_form(infos: &mut [hb_glyph_info_t], start: usize, end: usize, masks: &FormMasks, mask: u32) {
-    let all = masks.all();
-    for place in start..end.min(infos.len()) {
-        infos[place].mask = infos[place].mask & !all | mask;
+    debug_assert!(start <= end);
+    debug_assert!(end <= infos.len());
+    form_all(&mut infos[start..end], masks, mask);
+}
+
+/// Does that with all items of a list.
+fn form_all(infos: &mut [hb_glyph_info_t], masks: &FormMasks, mask: u32) {
+    for info in infos.iter_mut() {
+        form(info, masks, mask);
     }
+}
+
+/// Does that with an item.
+fn form(info: &mut hb_glyph_info_t, masks: &FormMasks, mask: u32) {
+    info.mask = in_form(masks, mask, info.mask);
+}
+
+/// A mask with a form, and with none of the others.
+pub(crate) fn in_form(masks: &FormMasks, form: u32, mask: u32) -> u32 {
+    mask & !masks.all() | form
 }

@@ -60,7 +60,9 @@ impl FormMasks {
     ///
     /// # Proved
     ///
-    /// That it returns.
+    /// ```text
+    /// ensures { result ≡ all_forms self.now }
+    /// ```
     #[inline]
     pub fn all(&self) -> u32 {
         self.isol | self.init | self.medi | self.fina

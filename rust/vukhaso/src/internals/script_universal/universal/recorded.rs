@@ -21,10 +21,14 @@ pub(crate) fn forget_substitutions(buffer: &mut hb_buffer_t) {
 
 /// Does that in a list.
 fn forget_all(infos: &mut [hb_glyph_info_t]) {
-    for place in 0..infos.len() {
-        let kept = infos[place].glyph_props() & !GlyphPropsFlags::SUBSTITUTED.bits();
-        infos[place].set_glyph_props(kept);
+    for info in infos.iter_mut() {
+        forget(info);
     }
+}
+
+/// Does that with a glyph.
+fn forget(info: &mut hb_glyph_info_t) {
+    info.set_glyph_props(info.glyph_props() & !GlyphPropsFlags::SUBSTITUTED.bits());
 }
 
 /// A feature of which it is noted where it has made a glyph.
