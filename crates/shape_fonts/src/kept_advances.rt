@@ -1,7 +1,7 @@
 //! Advances of glyphs that are kept from line to line. At a place in the variations of a font each may cost as much as an outline has
 //! points, or a font has regions.
 
-ghost use Rattle.std.specs.Prelude.{◌<◌};
+ghost use Rattle.std.specs.Prelude.{◌≡◌, ◌%◌, ◌<◌};
 ghost use Rattle.shape_fonts.specs.KeptAdvances.{AreOwn};
 
 use font_face::Face;
@@ -32,7 +32,9 @@ pub struct KeptAdvances<'a> {
 
 impl<'a> KeptAdvances<'a> {
     /// A font of which no advance is kept yet.
-    pub fn new(face: &'a Face<'a>) -> Self {
+    pub fn new(face: &'a Face<'a>) -> Self
+        ensures { result.own.face.now ≡ face.now }
+    {
         KeptAdvances {
             own: OwnFunctions { face },
             kept: [None; KEPT],
@@ -69,7 +71,8 @@ impl<'a> KeptAdvances<'a> {
 
 /// The place of a glyph among those that are kept.
 fn place_of(glyph: GlyphId) -> usize
-    ensures { result < 1024 }
+    ensures is { result ≡ glyph.0 % 1024 }
+    ensures low { result < 1024 }
 {
     usize::from(glyph.0) % KEPT
 }

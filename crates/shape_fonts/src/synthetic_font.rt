@@ -1,7 +1,7 @@
 //! What a font answers whose glyphs are drawn bolder and slanted, and in which another glyph stands for glyph 0.
 
 ghost use Rattle.std.specs.Prelude.{◌≡◌};
-ghost use Rattle.shape_fonts.specs.SyntheticFont.{IsBolderAdvance};
+ghost use Rattle.shape_fonts.specs.SyntheticFont.{IsBolderAdvance, bolder, drawn, is_plain, line_growth};
 ghost use Rattle.shape_fonts.specs.Synthetic as synthetic;
 
 use font_face::{Face, FaceNames};
@@ -35,7 +35,10 @@ impl<'a> SyntheticFont<'a> {
     /// A font of which glyphs are drawn so, at its size.
     pub fn new(face: &'a Face<'a>, synthetic: Synthetic, not_found: GlyphId) -> Self
         ensures font { result.own.face.now ≡ face.now }
+        ensures across { result.x ≡ Rattle.shape_fonts.specs.Synthetic.strength face.now.scale.x synthetic.bold.0 }
+        ensures upwards { result.y ≡ Rattle.shape_fonts.specs.Synthetic.strength face.now.scale.y synthetic.bold.1 }
         ensures in_place { result.in_place ≡ synthetic.in_place }
+        ensures slant { result.slant ≡ Rattle.shape_fonts.specs.Synthetic.slant_at face.now.scale.x face.now.scale.y synthetic.slant }
         ensures not_found { result.not_found ≡ not_found }
     {
         let (x, y) = (face.scale.x, face.scale.y);
@@ -50,7 +53,10 @@ impl<'a> SyntheticFont<'a> {
     }
 
     /// Whether it answers as the font alone does.
-    pub fn is_plain(&self) -> bool {
+    #[tactic(auto, using(font_variations::proofs::FloatLemmas::literals))]
+    pub fn is_plain(&self) -> bool
+        ensures { result ≡ is_plain self.now }
+    {
         self.x == 0 && self.y == 0 && self.slant == 0.0 && self.not_found.0 == 0
     }
 
@@ -71,7 +77,9 @@ impl<'a> SyntheticFont<'a> {
     }
 
     /// How much higher lines are than those of the font, where the font says how high these are.
-    fn line_growth(&self) -> i32 {
+    fn line_growth(&self) -> i32
+        ensures { result ≡ line_growth self.now }
+    {
         match self.own.face.extents {
             Some(_) => self.y,
             None => 0,
@@ -103,7 +111,9 @@ impl<'a> SyntheticFont<'a> {
     }
 
     /// The bounds of a glyph as it is drawn, of which these are the font's.
-    fn drawn(&self, plain: GlyphExtents) -> GlyphExtents {
+    fn drawn(&self, plain: GlyphExtents) -> GlyphExtents
+        ensures { result ≡ drawn self.now plain }
+    {
         let face = self.own.face;
         let has_charstrings = face.outlines.cff.is_some() || face.variations.outlines_2.is_some();
         if is_empty(plain) && !has_charstrings {
@@ -113,7 +123,10 @@ impl<'a> SyntheticFont<'a> {
     }
 
     /// The bounds of a glyph that is drawn bolder.
-    fn bolder(&self, plain: GlyphExtents) -> GlyphExtents {
+    #[tactic(auto, using(font_variations::proofs::FloatLemmas::literals))]
+    fn bolder(&self, plain: GlyphExtents) -> GlyphExtents
+        ensures { result ≡ bolder self.now plain }
+    {
         let moved = if self.in_place { self.x / 2 } else { 0 };
         GlyphExtents {
             x_bearing: plain.x_bearing.wrapping_sub(moved),
@@ -133,12 +146,16 @@ const NO_BOUNDS: GlyphExtents = GlyphExtents {
 };
 
 /// Whether bounds are those of nothing.
-fn is_empty(bounds: GlyphExtents) -> bool {
+fn is_empty(bounds: GlyphExtents) -> bool
+    ensures { result ≡ synthetic.is_empty bounds }
+{
     bounds.x_bearing == 0 && bounds.y_bearing == 0 && bounds.width == 0 && bounds.height == 0
 }
 
 /// How much bolder glyphs are where an em is so long. What is turned round grows the other way.
-fn strength(size: i32, bold: f32) -> i32 {
+fn strength(size: i32, bold: f32) -> i32
+    ensures { result ≡ synthetic.strength size bold }
+{
     let strength = rounded(float(size) * bold);
     if (strength < 0) == (size < 0) {
         strength
@@ -148,7 +165,10 @@ fn strength(size: i32, bold: f32) -> i32 {
 }
 
 /// How far to the right what stands higher is moved, where an em is so long across and upwards.
-fn slant_at(x: i32, y: i32, slant: f32) -> f32 {
+#[tactic(auto, using(font_variations::proofs::FloatLemmas::literals))]
+fn slant_at(x: i32, y: i32, slant: f32) -> f32
+    ensures { result ≡ synthetic.slant_at x y slant }
+{
     if y == 0 {
         return 0.0;
     }
@@ -156,17 +176,27 @@ fn slant_at(x: i32, y: i32, slant: f32) -> f32 {
 }
 
 /// The bounds of a glyph that is slanted.
-fn slanted(plain: GlyphExtents, slant: f32) -> GlyphExtents {
+#[tactic(auto, using(font_variations::proofs::FloatLemmas::literals))]
+fn slanted(plain: GlyphExtents, slant: f32) -> GlyphExtents
+    ensures { result ≡ synthetic.slanted plain slant }
+{
     if slant == 0.0 {
         return plain;
     }
     let top = float(plain.y_bearing) * slant;
     let bottom = float(plain.y_bearing.wrapping_add(plain.height)) * slant;
-    let (least, most) = if top < bottom {
-        (top, bottom)
+    if top < bottom {
+        sheared(plain, top, bottom)
     } else {
-        (bottom, top)
-    };
+        sheared(plain, bottom, top)
+    }
+}
+
+/// Bounds of which the left side moves as what moves least, and the right side as what moves most.
+#[tactic(auto, using(font_variations::proofs::FloatLemmas::literals))]
+fn sheared(plain: GlyphExtents, least: f32, most: f32) -> GlyphExtents
+    ensures { result ≡ synthetic.sheared plain least most }
+{
     let right = float(plain.x_bearing.wrapping_add(plain.width)) + most;
     let x_bearing = saturating_f32_to_i32((float(plain.x_bearing) + least).floor());
     GlyphExtents {
