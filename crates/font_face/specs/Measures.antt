@@ -85,10 +85,11 @@ scaled_bounds extents scale =
     let across = multiplier scale.x scale in
     let up = multiplier scale.y scale in
     record {
-        x_bearing = scaled_start extents.x_bearing across;
-        y_bearing = scaled_start extents.y_bearing up;
-        width = scaled_size extents.x_bearing extents.width across;
-        height = scaled_size extents.y_bearing extents.height up }
+      x_bearing = scaled_start extents.x_bearing across;
+      y_bearing = scaled_start extents.y_bearing up;
+      width = scaled_size extents.x_bearing extents.width across;
+      height = scaled_size extents.y_bearing extents.height up;
+    }
 
 -- the bounds of a glyph's bitmap, or else the box that its colours are clipped to; a bitmap's pixels become font units before they
 -- are brought to the size, and in `CBDT` after that
@@ -99,7 +100,10 @@ color_bounds color glyph coordinates scale =
     let clip = option_map (λ clip. scaled_bounds clip scale) (clip_box color.colr.table.now glyph coordinates) in
     option_map_or (λ bitmap. Some (scaled_bounds (in_units bitmap scale.units_per_em) scale)) sbix
     (option_map_or (λ bitmap. Some (in_units (record {
-        extents = scaled_bounds bitmap.extents scale; x_ppem = bitmap.x_ppem; y_ppem = bitmap.y_ppem }) scale.units_per_em)) cbdt clip)
+      extents = scaled_bounds bitmap.extents scale;
+      x_ppem = bitmap.x_ppem;
+      y_ppem = bitmap.y_ppem;
+    }) scale.units_per_em)) cbdt clip)
 
 -- a height of the whole font at its size, with the change of the number with this tag (`MVAR`)
 abbrev pub varied_height : Face → ℤ → ℕ → ℤ
@@ -110,8 +114,9 @@ varied_height face units tag =
 -- how far horizontal lines reach up and down
 unfoldable pub line_extents : Face → FontExtents
 line_extents face = option_map_or (λ extents. record {
-    ascender = varied_height face extents.ascender (tag_of (codes "hasc"));
-    descender = varied_height face extents.descender (tag_of (codes "hdsc")) })
+  ascender = varied_height face extents.ascender (tag_of (codes "hasc"));
+  descender = varied_height face extents.descender (tag_of (codes "hdsc"));
+})
     face.extents (extents_of_em face.scale.y)
 
 abbrev pub line_height : FontExtents → ℤ

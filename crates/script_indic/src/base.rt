@@ -119,7 +119,7 @@ fn encoded_reph(syllable: &[hb_glyph_info_t], mode: RephMode) -> Option<usize>
 fn begins_with_reph(syllable: &[hb_glyph_info_t]) -> bool
     ensures { result ≡ bases.begins_with_reph syllable.now }
 {
-    syllable.len() > 0 && category(&syllable[0]).is(Category::Repha)
+    !syllable.is_empty() && category(&syllable[0]).is(Category::Repha)
 }
 
 /// A search for the base.
