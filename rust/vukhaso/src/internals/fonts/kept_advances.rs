@@ -39,7 +39,9 @@ impl<'a> KeptAdvances<'a> {
     ///
     /// # Proved
     ///
-    /// That it returns.
+    /// ```text
+    /// ensures { result.own.face.now ≡ face.now }
+    /// ```
     #[inline]
     pub fn new(face: &'a Face<'a>) -> Self {
         KeptAdvances {

@@ -36,7 +36,10 @@ impl<'a> SyntheticFont<'a> {
     ///
     /// ```text
     /// ensures font { result.own.face.now ≡ face.now }
+    /// ensures across { result.x ≡ Rattle.shape_fonts.specs.Synthetic.strength face.now.scale.x synthetic.bold.0 }
+    /// ensures upwards { result.y ≡ Rattle.shape_fonts.specs.Synthetic.strength face.now.scale.y synthetic.bold.1 }
     /// ensures in_place { result.in_place ≡ synthetic.in_place }
+    /// ensures slant { result.slant ≡ Rattle.shape_fonts.specs.Synthetic.slant_at face.now.scale.x face.now.scale.y synthetic.slant }
     /// ensures not_found { result.not_found ≡ not_found }
     /// ```
     #[inline]
@@ -56,7 +59,9 @@ impl<'a> SyntheticFont<'a> {
     ///
     /// # Proved
     ///
-    /// That it returns.
+    /// ```text
+    /// ensures { result ≡ is_plain self.now }
+    /// ```
     #[inline]
     pub fn is_plain(&self) -> bool {
         self.x == 0 && self.y == 0 && self.slant == 0.0 && self.not_found.0 == 0
@@ -166,11 +171,15 @@ fn slanted(plain: GlyphExtents, slant: f32) -> GlyphExtents {
     }
     let top = float(plain.y_bearing) * slant;
     let bottom = float(plain.y_bearing.wrapping_add(plain.height)) * slant;
-    let (least, most) = if top < bottom {
-        (top, bottom)
+    if top < bottom {
+        sheared(plain, top, bottom)
     } else {
-        (bottom, top)
-    };
+        sheared(plain, bottom, top)
+    }
+}
+
+/// Bounds of which the left side moves as what moves least, and the right side as what moves most.
+fn sheared(plain: GlyphExtents, least: f32, most: f32) -> GlyphExtents {
     let right = float(plain.x_bearing.wrapping_add(plain.width)) + most;
     let x_bearing = saturating_f32_to_i32((float(plain.x_bearing) + least).floor());
     GlyphExtents {

@@ -107,7 +107,7 @@ fn encoded_reph(syllable: &[hb_glyph_info_t], mode: RephMode) -> Option<usize> {
 
 /// Whether a syllable begins with one.
 fn begins_with_reph(syllable: &[hb_glyph_info_t]) -> bool {
-    syllable.len() > 0 && category(&syllable[0]).is(Category::Repha)
+    !syllable.is_empty() && category(&syllable[0]).is(Category::Repha)
 }
 
 /// A search for the base.
