@@ -1,21 +1,18 @@
 //! What a subtable with a state table does at a glyph, and what it keeps while it goes over the text.
 
-ghost use Rattle.std.specs.Prelude.{◌≡◌, true, false, IfOk};
-ghost use Rattle.shaping_buffer.specs.KeepsClusters.{KeepsClusters};
+ghost use Rattle.std.specs.Prelude.{◌≡◌, true, false};
 ghost use Rattle.aat_substitution.specs.Actions.{is_in_place};
-ghost use Rattle.aat_substitution.specs.Left.{IsLeftAs, IsLeftOpen};
+ghost use Rattle.aat_substitution.specs.Left.{Stays, Works};
 ghost use Rattle.ot_layout.specs.Budget.{IsNotMore};
-ghost use Rattle.shaping_passes.specs.Refusals.{IsRefusal};
 
 use crate::contextual::Contextual;
 use crate::insertion::Insertion;
 use crate::ligature::Ligature;
 use crate::rearrangement::Rearrangement;
-use crate::work::Work;
+use crate::work::{Done, Work};
 use aat_tables::{Entry, Subtable, SubtableKind};
 use font_tables::gdef::Gdef;
 use shaping_buffer::hb_buffer_t;
-use std::alloc::AllocError;
 
 /// What a subtable does, by its kind.
 #[derive(Clone, Copy)]
@@ -66,18 +63,15 @@ impl<'a> Action<'a> {
         }
     }
 
-    /// Does what an entry says, at the cursor. `Ok(false)` where the buffer refused a call for length.
+    /// Does what an entry says, at the cursor.
     pub(crate) fn transition(
         &mut self,
         buffer: &mut hb_buffer_t,
         entry: &Entry,
         gdef: &Gdef,
         work: &mut Work,
-    ) -> Result<bool, AllocError>
-        ensures left { IsLeftAs buffer.old result buffer.new }
-        ensures spent { IsNotMore work.old.budget work.new.budget }
-        ensures refusal { IsRefusal false result buffer.new }
-        ensures keeps { KeepsClusters buffer.old buffer.new }
+    ) -> Done
+        ensures { Works false result buffer.old buffer.new work.old work.new }
     {
         if buffer.have_output() {
             return self.put_out(buffer, entry, work);
@@ -89,33 +83,24 @@ impl<'a> Action<'a> {
     /// Changes glyphs in their list.
     fn change(&mut self, buffer: &mut hb_buffer_t, entry: &Entry, gdef: &Gdef, work: &mut Work)
         requires { buffer.old.have_output ≡ false }
-        ensures closed { buffer.new.have_output ≡ false }
+        ensures stays { Stays buffer.old buffer.new }
         ensures spent { IsNotMore work.old.budget work.new.budget }
-        ensures keeps { KeepsClusters buffer.old buffer.new }
     {
         match self {
-            Action::Rearrangement(rearrangement) => rearrangement.transition(buffer, entry),
-            Action::Contextual(contextual) => contextual.transition(buffer, entry, gdef, work),
+            Action::Rearrangement(rearrangement) => rearrangement.obey(buffer, entry),
+            Action::Contextual(contextual) => contextual.obey(buffer, entry, gdef, work),
             Action::Ligature(_) | Action::Insertion(_) => {}
         }
     }
 
-    /// Puts glyphs out. `Ok(false)` where the buffer refused a call for length.
-    fn put_out(
-        &mut self,
-        buffer: &mut hb_buffer_t,
-        entry: &Entry,
-        work: &mut Work,
-    ) -> Result<bool, AllocError>
+    /// Puts glyphs out.
+    fn put_out(&mut self, buffer: &mut hb_buffer_t, entry: &Entry, work: &mut Work) -> Done
         requires { buffer.old.have_output ≡ true }
-        ensures left { IsLeftOpen result buffer.new }
-        ensures spent { IsNotMore work.old.budget work.new.budget }
-        ensures refusal { IsRefusal false result buffer.new }
-        ensures keeps { KeepsClusters buffer.old buffer.new }
+        ensures { Works false result buffer.old buffer.new work.old work.new }
     {
         match self {
-            Action::Ligature(ligature) => ligature.transition(buffer, entry, work),
-            Action::Insertion(insertion) => insertion.transition(buffer, entry, work),
+            Action::Ligature(ligature) => ligature.obey(buffer, entry, work),
+            Action::Insertion(insertion) => insertion.obey(buffer, entry, work),
             Action::Rearrangement(_) | Action::Contextual(_) => Ok(true),
         }
     }

@@ -2,7 +2,7 @@
 
 ghost use Rattle.std.specs.Prelude.{◌≡◌, ◌<◌, ◌≤◌, None, Some, true, false, length};
 ghost use Rattle.aat_substitution.specs.Actions.{has_flag, list_at};
-ghost use Rattle.shaping_buffer.specs.KeepsClusters.{KeepsClusters};
+ghost use Rattle.aat_substitution.specs.Left.{Stays};
 ghost use Rattle.ot_layout.specs.Budget.{IsNotMore};
 
 use crate::work::Work;
@@ -54,7 +54,7 @@ impl<'a> Contextual<'a> {
     }
 
     /// Does what an entry says, at the cursor. At the end of a text nothing is done unless a glyph is marked.
-    pub(crate) fn transition(
+    pub(crate) fn obey(
         &mut self,
         buffer: &mut hb_buffer_t,
         entry: &Entry,
@@ -62,9 +62,8 @@ impl<'a> Contextual<'a> {
         work: &mut Work,
     )
         requires { buffer.old.have_output ≡ false }
-        ensures closed { buffer.new.have_output ≡ false }
+        ensures stays { Stays buffer.old buffer.new }
         ensures spent { IsNotMore work.old.budget work.new.budget }
-        ensures keeps { KeepsClusters buffer.old buffer.new }
         ensures kept { has_flag entry.now 0x8000 ≡ false → self.new ≡ self.old }
         ensures marked { has_flag entry.now 0x8000 ≡ true → buffer.old.idx < length buffer.old.input → self.new.mark ≡ Some buffer.old.idx }
     {
@@ -102,8 +101,7 @@ impl<'a> Contextual<'a> {
 /// Marks the glyphs of a range as unsafe to break.
 fn mark_break(buffer: &mut hb_buffer_t, from: usize, to: usize)
     requires { buffer.old.have_output ≡ false }
-    ensures closed { buffer.new.have_output ≡ false }
-    ensures keeps { KeepsClusters buffer.old buffer.new }
+    ensures { Stays buffer.old buffer.new }
 {
     let to = to.min(buffer.len());
     if from <= to {

@@ -1,15 +1,12 @@
 //! The walk of a state table over a text: HarfBuzz's `StateTableDriver`.
 
 ghost use Rattle.std.specs.Prelude.{◌≡◌, ◌⊎◌, ◌<◌, ◌≤◌, Ok, true, false, length, IfOk};
-ghost use Rattle.shaping_buffer.specs.KeepsClusters.{KeepsClusters};
 ghost use Rattle.shaping_buffer.specs.State.{lookahead_len};
-ghost use Rattle.aat_substitution.specs.Left.{IsLeftAs, IsLeftClosed};
-ghost use Rattle.ot_layout.specs.Budget.{IsNotMore};
-ghost use Rattle.shaping_passes.specs.Refusals.{IsRefusal};
+ghost use Rattle.aat_substitution.specs.Left.{Closes, Stays, StaysAndTells, Works};
 
 use crate::action::Action;
 use crate::setting::{DONT_ADVANCE, Setting};
-use crate::work::Work;
+use crate::work::{Done, Work};
 use crate::writing::fail;
 use aat_tables::Entry;
 use aat_tables::state_table::{END_OF_TEXT, OUT_OF_BOUNDS, START_OF_TEXT};
@@ -48,18 +45,15 @@ impl Setting<'_> {
         }
     }
 
-    /// Goes over a text from its start. `Ok(false)` where the buffer refused a call for length: an output may still be open then.
+    /// Goes over a text from its start. Where the buffer refused a call, an output may still be open.
     pub(crate) fn drive(
         &self,
         buffer: &mut hb_buffer_t,
         action: &mut Action,
         work: &mut Work,
-    ) -> Result<bool, AllocError>
+    ) -> Done
         requires { buffer.old.have_output ≡ false }
-        ensures left { IsLeftClosed result buffer.new }
-        ensures spent { IsNotMore work.old.budget work.new.budget }
-        ensures refusal { IsRefusal false result buffer.new }
-        ensures keeps { KeepsClusters buffer.old buffer.new }
+        ensures { Closes result buffer.old buffer.new work.old work.new }
     {
         if action.is_in_place() {
             return self.drive_in_place(buffer, action, work);
@@ -72,17 +66,9 @@ impl Setting<'_> {
     }
 
     /// Goes over a text whose glyphs stay in their list.
-    fn drive_in_place(
-        &self,
-        buffer: &mut hb_buffer_t,
-        action: &mut Action,
-        work: &mut Work,
-    ) -> Result<bool, AllocError>
+    fn drive_in_place(&self, buffer: &mut hb_buffer_t, action: &mut Action, work: &mut Work) -> Done
         requires { buffer.old.have_output ≡ false }
-        ensures left { IsLeftClosed result buffer.new }
-        ensures spent { IsNotMore work.old.budget work.new.budget }
-        ensures refusal { IsRefusal false result buffer.new }
-        ensures keeps { KeepsClusters buffer.old buffer.new }
+        ensures { Closes result buffer.old buffer.new work.old work.new }
     {
         if !buffer.move_to(0)? {
             return Ok(false);
@@ -91,16 +77,8 @@ impl Setting<'_> {
     }
 
     /// Goes over a text from the cursor on, step by step.
-    fn walk(
-        &self,
-        buffer: &mut hb_buffer_t,
-        action: &mut Action,
-        work: &mut Work,
-    ) -> Result<bool, AllocError>
-        ensures left { IsLeftAs buffer.old result buffer.new }
-        ensures spent { IsNotMore work.old.budget work.new.budget }
-        ensures refusal { IsRefusal false result buffer.new }
-        ensures keeps { KeepsClusters buffer.old buffer.new }
+    fn walk(&self, buffer: &mut hb_buffer_t, action: &mut Action, work: &mut Work) -> Done
+        ensures { Works false result buffer.old buffer.new work.old work.new }
     {
         let mut place = Place {
             state: START_OF_TEXT,
@@ -128,10 +106,7 @@ impl Setting<'_> {
         place: Place,
         work: &mut Work,
     ) -> Result<Step, AllocError>
-        ensures left { IsLeftAs buffer.old result buffer.new }
-        ensures spent { IsNotMore work.old.budget work.new.budget }
-        ensures refusal { IsRefusal Step.Refused result buffer.new }
-        ensures keeps { KeepsClusters buffer.old buffer.new }
+        ensures { Works Step.Refused result buffer.old buffer.new work.old work.new }
     {
         let part = self.part_at(buffer, place.part);
         if self.reach.is_parted() && !self.reach.reaches(part) {
@@ -215,8 +190,7 @@ impl Setting<'_> {
 
 /// Marks the current glyph and the one before it as unsafe to break, where there are both.
 fn mark_break(buffer: &mut hb_buffer_t)
-    ensures same_output { buffer.new.have_output ≡ buffer.old.have_output }
-    ensures keeps { KeepsClusters buffer.old buffer.new }
+    ensures { Stays buffer.old buffer.new }
 {
     let before = buffer.backtrack_len();
     if before > 0 && buffer.lookahead_len() > 0 {
@@ -229,9 +203,7 @@ fn mark_break(buffer: &mut hb_buffer_t)
 fn advance(buffer: &mut hb_buffer_t, next: Place) -> Result<Step, AllocError>
     ensures end { lookahead_len buffer.old ≡ 0 → result ≡ Ok Step.End }
     ensures on { IfOk result (λ step. (step ≡ Step.End) ⊎ ((step ≡ Step.Refused) ⊎ (step ≡ Step.On next))) }
-    ensures left { IsLeftAs buffer.old result buffer.new }
-    ensures refusal { IsRefusal Step.Refused result buffer.new }
-    ensures keeps { KeepsClusters buffer.old buffer.new }
+    ensures stays { StaysAndTells Step.Refused result buffer.old buffer.new }
 {
     if buffer.lookahead_len() == 0 {
         return Ok(Step::End);

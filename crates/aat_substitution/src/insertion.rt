@@ -1,20 +1,16 @@
 //! Subtables that put glyphs in, before or behind others.
 
 ghost use Rattle.std.specs.Prelude.{◌≡◌, ◌+◌, ◌<◌, ◌∷◌, true, false, length, min, slice_index, take};
-ghost use Rattle.shaping_buffer.specs.KeepsClusters.{KeepsClusters};
 ghost use Rattle.aat_substitution.specs.Actions.{has_flag, list_at, puts_in};
 ghost use Rattle.aat_substitution.specs.Insertions.{GivesOrWants, first_glyphs, glyph_at, inserted_count, inserted_glyphs, put_before, put_behind, put_in, put_one};
-ghost use Rattle.aat_substitution.specs.Left.{IsLeftOpen};
-ghost use Rattle.ot_layout.specs.Budget.{IsNotMore};
-ghost use Rattle.shaping_passes.specs.Refusals.{IsRefusal};
+ghost use Rattle.aat_substitution.specs.Left.{Stays, StaysAndTells, Works};
 
 use crate::setting::DONT_ADVANCE;
-use crate::work::Work;
+use crate::work::{Done, Work};
 use crate::writing::go_to;
 use aat_tables::Entry;
 use font_tables::bytes::{part, tail, u16_at, u32_at};
 use shaping_buffer::hb_buffer_t;
-use std::alloc::AllocError;
 
 /// The current glyph is marked.
 const SET_MARK: u16 = 0x8000;
@@ -102,18 +98,10 @@ impl<'a> Insertion<'a> {
         }
     }
 
-    /// Does what an entry says, at the cursor. `Ok(false)` where the buffer refused a call for length.
-    pub(crate) fn transition(
-        &mut self,
-        buffer: &mut hb_buffer_t,
-        entry: &Entry,
-        work: &mut Work,
-    ) -> Result<bool, AllocError>
+    /// Does what an entry says, at the cursor.
+    pub(crate) fn obey(&mut self, buffer: &mut hb_buffer_t, entry: &Entry, work: &mut Work) -> Done
         requires { buffer.old.have_output ≡ true }
-        ensures left { IsLeftOpen result buffer.new }
-        ensures spent { IsNotMore work.old.budget work.new.budget }
-        ensures refusal { IsRefusal false result buffer.new }
-        ensures keeps { KeepsClusters buffer.old buffer.new }
+        ensures stays { Works false result buffer.old buffer.new work.old work.new }
         ensures kept { has_flag entry.now 0x8000 ≡ false → self.new ≡ self.old }
         ensures marked { has_flag entry.now 0x8000 ≡ true → slice_index entry.now.«data» 1 ≡ 0xFFFF → self.new.mark ≡ length buffer.old.out }
     {
@@ -124,7 +112,7 @@ impl<'a> Insertion<'a> {
                 return Ok(true);
             }
             let inserted = self.inserted(entry.data[1], count, entry.flags & MARKED_BEFORE != 0);
-            if !insert_at_mark(buffer, self.mark, &inserted, work)? {
+            if !insert_at(buffer, self.mark, &inserted, work)? {
                 return Ok(false);
             }
         }
@@ -134,20 +122,10 @@ impl<'a> Insertion<'a> {
         self.insert_at_cursor(buffer, entry, work)
     }
 
-    /// Puts the glyphs in that an entry has for the current glyph. `Ok(false)` where the buffer refused a call for length.
-    ///
-    /// Where the next state is at the same glyph, it sees them.
-    fn insert_at_cursor(
-        &self,
-        buffer: &mut hb_buffer_t,
-        entry: &Entry,
-        work: &mut Work,
-    ) -> Result<bool, AllocError>
+    /// Puts the glyphs in that an entry has for the current glyph. Where the next state is at the same glyph, it sees them.
+    fn insert_at_cursor(&self, buffer: &mut hb_buffer_t, entry: &Entry, work: &mut Work) -> Done
         requires { buffer.old.have_output ≡ true }
-        ensures left { IsLeftOpen result buffer.new }
-        ensures spent { IsNotMore work.old.budget work.new.budget }
-        ensures refusal { IsRefusal false result buffer.new }
-        ensures keeps { KeepsClusters buffer.old buffer.new }
+        ensures { Works false result buffer.old buffer.new work.old work.new }
     {
         let count = entry.flags / CURRENT_COUNT_UNIT % 32;
         if entry.data[0] == NONE || !work.insert(count) {
@@ -167,30 +145,18 @@ impl<'a> Insertion<'a> {
     }
 }
 
-/// Puts glyphs in beside the marked glyph, and goes back to the current one. `Ok(false)` where the buffer refused a call for
-/// length.
-fn insert_at_mark(
-    buffer: &mut hb_buffer_t,
-    mark: usize,
-    inserted: &Inserted,
-    work: &mut Work,
-) -> Result<bool, AllocError>
+/// Puts glyphs in beside the marked glyph, and goes back to the current one.
+fn insert_at(buffer: &mut hb_buffer_t, mark: usize, inserted: &Inserted, work: &mut Work) -> Done
     requires { buffer.old.have_output ≡ true }
-    ensures left { IsLeftOpen result buffer.new }
-    ensures spent { IsNotMore work.old.budget work.new.budget }
-    ensures refusal { IsRefusal false result buffer.new }
-    ensures keeps { KeepsClusters buffer.old buffer.new }
+    ensures { Works false result buffer.old buffer.new work.old work.new }
 {
     let end = buffer.out_len();
     if !go_to(buffer, mark, work)? || !insert(buffer, inserted)? {
         return Ok(false);
     }
     add_glyphs(work, inserted);
-    if !go_to(
-        buffer,
-        end.saturating_add(usize::from(inserted.count)),
-        work,
-    )? {
+    let behind = end.saturating_add(usize::from(inserted.count));
+    if !go_to(buffer, behind, work)? {
         return Ok(false);
     }
     mark_break(buffer, mark);
@@ -211,8 +177,7 @@ fn add_glyphs(work: &mut Work, inserted: &Inserted)
 /// Marks the glyphs from a place of the out side up to the current one as unsafe to break.
 fn mark_break(buffer: &mut hb_buffer_t, from: usize)
     requires { buffer.old.have_output ≡ true }
-    ensures opened { buffer.new.have_output ≡ true }
-    ensures keeps { KeepsClusters buffer.old buffer.new }
+    ensures { Stays buffer.old buffer.new }
 {
     let end = buffer.idx().saturating_add(1);
     if from <= buffer.out_len() {
@@ -221,13 +186,11 @@ fn mark_break(buffer: &mut hb_buffer_t, from: usize)
 }
 
 /// Puts glyphs in beside the current glyph, and in its cluster; at the end of a text, in that of the last glyph. The cursor is behind
-/// them. `Ok(false)` where the buffer refused a call for length.
-fn insert(buffer: &mut hb_buffer_t, inserted: &Inserted) -> Result<bool, AllocError>
+/// them.
+fn insert(buffer: &mut hb_buffer_t, inserted: &Inserted) -> Done
     requires { buffer.old.have_output ≡ true }
     ensures gives { GivesOrWants (put_in inserted.now.glyphs.now inserted.now.count inserted.now.is_before buffer.old) result buffer.new }
-    ensures left { IsLeftOpen result buffer.new }
-    ensures refusal { IsRefusal false result buffer.new }
-    ensures keeps { KeepsClusters buffer.old buffer.new }
+    ensures stays { StaysAndTells false result buffer.old buffer.new }
 {
     if buffer.lookahead_len() == 0 || inserted.is_before {
         return insert_before(buffer, inserted);
@@ -235,13 +198,11 @@ fn insert(buffer: &mut hb_buffer_t, inserted: &Inserted) -> Result<bool, AllocEr
     insert_behind(buffer, inserted)
 }
 
-/// Puts glyphs out before the current glyph. `Ok(false)` where the buffer refused a call for length.
-fn insert_before(buffer: &mut hb_buffer_t, inserted: &Inserted) -> Result<bool, AllocError>
+/// Puts glyphs out before the current glyph.
+fn insert_before(buffer: &mut hb_buffer_t, inserted: &Inserted) -> Done
     requires { buffer.old.have_output ≡ true }
     ensures gives { GivesOrWants (put_before inserted.now.glyphs.now inserted.now.count buffer.old) result buffer.new }
-    ensures left { IsLeftOpen result buffer.new }
-    ensures refusal { IsRefusal false result buffer.new }
-    ensures keeps { KeepsClusters buffer.old buffer.new }
+    ensures stays { StaysAndTells false result buffer.old buffer.new }
 {
     for place in 0..inserted.count {
         if !put_one(buffer, inserted, place)? {
@@ -251,27 +212,23 @@ fn insert_before(buffer: &mut hb_buffer_t, inserted: &Inserted) -> Result<bool, 
     Ok(true)
 }
 
-/// Puts a glyph of the list out. `Ok(false)` where the buffer refused a call for length.
+/// Puts a glyph of the list out.
 #[tactic(auto, using(shaping_buffer::proofs::ClosedKeepsLemmas::kept), unfolding(crate::specs::Insertions::put_one))]
-fn put_one(buffer: &mut hb_buffer_t, inserted: &Inserted, place: u16) -> Result<bool, AllocError>
+fn put_one(buffer: &mut hb_buffer_t, inserted: &Inserted, place: u16) -> Done
     requires { buffer.old.have_output ≡ true }
     ensures gives { GivesOrWants (put_one inserted.now.glyphs.now place buffer.old) result buffer.new }
-    ensures left { IsLeftOpen result buffer.new }
-    ensures refusal { IsRefusal false result buffer.new }
-    ensures keeps { KeepsClusters buffer.old buffer.new }
+    ensures stays { StaysAndTells false result buffer.old buffer.new }
 {
     buffer.output_glyph(inserted.glyph_at(place))
 }
 
-/// Puts the current glyph out, and glyphs behind it. `Ok(false)` where the buffer refused a call for length.
+/// Puts the current glyph out, and glyphs behind it.
 #[tactic(auto, using(shaping_buffer::proofs::ClosedKeepsLemmas::kept), unfolding(crate::specs::Insertions::put_behind))]
-fn insert_behind(buffer: &mut hb_buffer_t, inserted: &Inserted) -> Result<bool, AllocError>
+fn insert_behind(buffer: &mut hb_buffer_t, inserted: &Inserted) -> Done
     requires opened { buffer.old.have_output ≡ true }
     requires glyph { 0 < length buffer.old.input }
     ensures gives { GivesOrWants (put_behind inserted.now.glyphs.now inserted.now.count buffer.old) result buffer.new }
-    ensures left { IsLeftOpen result buffer.new }
-    ensures refusal { IsRefusal false result buffer.new }
-    ensures keeps { KeepsClusters buffer.old buffer.new }
+    ensures stays { StaysAndTells false result buffer.old buffer.new }
 {
     let ids = glyphs_behind(buffer.cur(0).glyph_id, inserted);
     let count = usize::from(inserted.count).min(31);

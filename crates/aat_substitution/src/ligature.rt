@@ -1,13 +1,10 @@
 //! Subtables that make ligatures: components are pushed on a stack, and ligatures made of those on its top.
 
 ghost use Rattle.std.specs.Prelude.{◌≡◌, ◌<◌, ◌≤◌, true, false, length};
-ghost use Rattle.shaping_buffer.specs.KeepsClusters.{KeepsClusters};
 ghost use Rattle.aat_substitution.specs.Actions.{component_of, has_flag, list_at, place_on, pushed_count, pushed_places};
-ghost use Rattle.aat_substitution.specs.Left.{IsLeftOpen};
-ghost use Rattle.ot_layout.specs.Budget.{IsNotMore};
-ghost use Rattle.shaping_passes.specs.Refusals.{IsRefusal};
+ghost use Rattle.aat_substitution.specs.Left.{Stays, StaysAndTells, Works};
 
-use crate::work::Work;
+use crate::work::{Done, Work};
 use crate::writing::{go_to, hide_current};
 use aat_tables::Entry;
 use aat_tables::lookup::DELETED_GLYPH;
@@ -92,18 +89,10 @@ impl<'a> Ligature<'a> {
         self.places[component % STACK_SIZE]
     }
 
-    /// Does what an entry says, at the cursor. `Ok(false)` where the buffer refused a call for length.
-    pub(crate) fn transition(
-        &mut self,
-        buffer: &mut hb_buffer_t,
-        entry: &Entry,
-        work: &mut Work,
-    ) -> Result<bool, AllocError>
+    /// Does what an entry says, at the cursor.
+    pub(crate) fn obey(&mut self, buffer: &mut hb_buffer_t, entry: &Entry, work: &mut Work) -> Done
         requires { buffer.old.have_output ≡ true }
-        ensures left { IsLeftOpen result buffer.new }
-        ensures spent { IsNotMore work.old.budget work.new.budget }
-        ensures refusal { IsRefusal false result buffer.new }
-        ensures keeps { KeepsClusters buffer.old buffer.new }
+        ensures stays { Works false result buffer.old buffer.new work.old work.new }
         ensures same { has_flag entry.now 0x8000 ≡ false → has_flag entry.now 0x2000 ≡ false → self.new ≡ self.old }
         ensures place { has_flag entry.now 0x8000 ≡ true → has_flag entry.now 0x2000 ≡ false
             → self.new.places ≡ pushed_places self.old.places self.old.count (length buffer.old.out) }
@@ -138,18 +127,10 @@ impl<'a> Ligature<'a> {
         self.count = self.count.saturating_add(1);
     }
 
-    /// Goes down the stack with the actions from one on. `Ok(false)` where the buffer refused a call for length.
-    fn perform(
-        &mut self,
-        buffer: &mut hb_buffer_t,
-        first: u16,
-        work: &mut Work,
-    ) -> Result<bool, AllocError>
+    /// Goes down the stack with the actions from one on.
+    fn perform(&mut self, buffer: &mut hb_buffer_t, first: u16, work: &mut Work) -> Done
         requires { buffer.old.have_output ≡ true }
-        ensures left { IsLeftOpen result buffer.new }
-        ensures spent { IsNotMore work.old.budget work.new.budget }
-        ensures refusal { IsRefusal false result buffer.new }
-        ensures keeps { KeepsClusters buffer.old buffer.new }
+        ensures { Works false result buffer.old buffer.new work.old work.new }
     {
         let mut ligature = 0;
         let count = self.count;
@@ -175,10 +156,7 @@ impl<'a> Ligature<'a> {
         work: &mut Work,
     ) -> Result<Made, AllocError>
         requires { buffer.old.have_output ≡ true }
-        ensures left { IsLeftOpen result buffer.new }
-        ensures spent { IsNotMore work.old.budget work.new.budget }
-        ensures refusal { IsRefusal Made.Refused result buffer.new }
-        ensures keeps { KeepsClusters buffer.old buffer.new }
+        ensures { Works Made.Refused result buffer.old buffer.new work.old work.new }
     {
         if !go_to(buffer, self.place(component), work)? {
             return Ok(Made::Refused);
@@ -215,36 +193,26 @@ impl<'a> Ligature<'a> {
         u16_at(self.components, place as usize * 2)
     }
 
-    /// Puts a ligature in the place of the current glyph, which is a component, and deletes the components behind it. `Ok(false)`
-    /// where the buffer refused a call for length.
-    fn store(
-        &mut self,
-        buffer: &mut hb_buffer_t,
-        component: usize,
-        glyph: u16,
-        work: &mut Work,
-    ) -> Result<bool, AllocError>
+    /// Puts a ligature in the place of the current glyph, which is its first component, and deletes the components behind it.
+    fn store(&mut self, buffer: &mut hb_buffer_t, first: usize, glyph: u16, work: &mut Work) -> Done
         requires { buffer.old.have_output ≡ true }
-        ensures left { IsLeftOpen result buffer.new }
-        ensures spent { IsNotMore work.old.budget work.new.budget }
-        ensures refusal { IsRefusal false result buffer.new }
-        ensures keeps { KeepsClusters buffer.old buffer.new }
+        ensures { Works false result buffer.old buffer.new work.old work.new }
     {
         if !put(buffer, glyph)? {
             return Ok(false);
         }
         let last = self.count.saturating_sub(1);
         let end = self.place(last).saturating_add(1);
-        for turn in 0..last.saturating_sub(component) {
+        for turn in 0..last.saturating_sub(first) {
             if !delete_at(buffer, self.place(last.saturating_sub(turn)), work)? {
                 return Ok(false);
             }
         }
-        self.count = component.saturating_add(1);
+        self.count = first.saturating_add(1);
         if !go_to(buffer, end, work)? {
             return Ok(false);
         }
-        merge(buffer, self.place(component));
+        merge(buffer, self.place(first));
         Ok(true)
     }
 }
@@ -261,12 +229,10 @@ fn component_of(glyph: u32, action: u32) -> u32
     }
 }
 
-/// Puts a glyph in the place of the current one. `Ok(false)` where the buffer refused a call for length.
-fn put(buffer: &mut hb_buffer_t, glyph: u16) -> Result<bool, AllocError>
+/// Puts a glyph in the place of the current one.
+fn put(buffer: &mut hb_buffer_t, glyph: u16) -> Done
     requires { buffer.old.have_output ≡ true }
-    ensures left { IsLeftOpen result buffer.new }
-    ensures refusal { IsRefusal false result buffer.new }
-    ensures keeps { KeepsClusters buffer.old buffer.new }
+    ensures { StaysAndTells false result buffer.old buffer.new }
 {
     if buffer.lookahead_len() == 0 {
         return Ok(true);
@@ -274,13 +240,10 @@ fn put(buffer: &mut hb_buffer_t, glyph: u16) -> Result<bool, AllocError>
     buffer.replace_glyph(u32::from(glyph))
 }
 
-/// Puts a deleted glyph in the place of that at a place of both sides. `Ok(false)` where the buffer refused a call for length.
-fn delete_at(buffer: &mut hb_buffer_t, place: usize, work: &mut Work) -> Result<bool, AllocError>
+/// Puts a deleted glyph in the place of that at a place of both sides.
+fn delete_at(buffer: &mut hb_buffer_t, place: usize, work: &mut Work) -> Done
     requires { buffer.old.have_output ≡ true }
-    ensures left { IsLeftOpen result buffer.new }
-    ensures spent { IsNotMore work.old.budget work.new.budget }
-    ensures refusal { IsRefusal false result buffer.new }
-    ensures keeps { KeepsClusters buffer.old buffer.new }
+    ensures { Works false result buffer.old buffer.new work.old work.new }
 {
     if !go_to(buffer, place, work)? {
         return Ok(false);
@@ -288,12 +251,10 @@ fn delete_at(buffer: &mut hb_buffer_t, place: usize, work: &mut Work) -> Result<
     delete(buffer)
 }
 
-/// Puts a deleted glyph in the place of the current one. `Ok(false)` where the buffer refused a call for length.
-fn delete(buffer: &mut hb_buffer_t) -> Result<bool, AllocError>
+/// Puts a deleted glyph in the place of the current one.
+fn delete(buffer: &mut hb_buffer_t) -> Done
     requires { buffer.old.have_output ≡ true }
-    ensures left { IsLeftOpen result buffer.new }
-    ensures refusal { IsRefusal false result buffer.new }
-    ensures keeps { KeepsClusters buffer.old buffer.new }
+    ensures { StaysAndTells false result buffer.old buffer.new }
 {
     if buffer.lookahead_len() == 0 {
         return Ok(true);
@@ -305,8 +266,7 @@ fn delete(buffer: &mut hb_buffer_t) -> Result<bool, AllocError>
 /// Puts the glyphs from a place on that were put out into one cluster.
 fn merge(buffer: &mut hb_buffer_t, start: usize)
     requires { buffer.old.have_output ≡ true }
-    ensures opened { buffer.new.have_output ≡ true }
-    ensures keeps { KeepsClusters buffer.old buffer.new }
+    ensures { Stays buffer.old buffer.new }
 {
     let end = buffer.out_len();
     if start <= end {

@@ -2,7 +2,7 @@
 
 ghost use Rattle.std.specs.Prelude.{◌≡◌, false};
 ghost use Rattle.shaping_buffer.specs.Clusters.{clusters};
-ghost use Rattle.shaping_buffer.specs.KeepsClusters.{KeepsClusters};
+ghost use Rattle.aat_substitution.specs.Left.{Stays};
 ghost use Rattle.ot_layout.specs.Budget.{IsNotMore};
 
 use crate::setting::Reach;
@@ -22,9 +22,8 @@ pub(crate) fn replace_all(
     work: &mut Work,
 )
     requires { buffer.old.have_output ≡ false }
-    ensures closed { buffer.new.have_output ≡ false }
+    ensures stays { Stays buffer.old buffer.new }
     ensures spent { IsNotMore work.old.budget work.new.budget }
-    ensures keeps { KeepsClusters buffer.old buffer.new }
 {
     work.budget.pay_for(buffer.len());
     replace_each(buffer.info_slice_mut(), lookup, reach, gdef, work);

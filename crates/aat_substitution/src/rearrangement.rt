@@ -3,8 +3,9 @@
 ghost use Rattle.std.specs.Prelude.{◌≡◌, ◌+◌, ◌<◌, ◌≤◌, ◌&&◌, true, false, length, min, nat_lt, if◌then◌else◌};
 ghost use Rattle.aat_substitution.specs.Actions.{has_flag};
 ghost use Rattle.aat_substitution.specs.Alike.{AreAlike};
+ghost use Rattle.aat_substitution.specs.Left.{Stays};
 ghost use Rattle.shaping_buffer.specs.ClusterStep.{any_order};
-ghost use Rattle.shaping_buffer.specs.KeepsClusters.{KeepsClusters, IsOneCluster};
+ghost use Rattle.shaping_buffer.specs.KeepsClusters.{IsOneCluster};
 
 use aat_tables::Entry;
 use rb_glyph::hb_glyph_info_t;
@@ -94,10 +95,9 @@ impl Rearrangement {
     }
 
     /// Does what an entry says, at the cursor.
-    pub(crate) fn transition(&mut self, buffer: &mut hb_buffer_t, entry: &Entry)
+    pub(crate) fn obey(&mut self, buffer: &mut hb_buffer_t, entry: &Entry)
         requires { buffer.old.have_output ≡ false }
-        ensures closed { buffer.new.have_output ≡ false }
-        ensures keeps { KeepsClusters buffer.old buffer.new }
+        ensures stays { Stays buffer.old buffer.new }
         ensures first { self.new.start ≡ (if has_flag entry.now 0x8000 then buffer.old.idx else self.old.start) }
         ensures last { self.new.end
             ≡ (if has_flag entry.now 0x2000 then min (buffer.old.idx + 1) (length buffer.old.input) else self.old.end) }
@@ -118,8 +118,7 @@ impl Rearrangement {
     /// Puts the glyphs in order. `behind` is the place behind the current glyph.
     fn rearrange(&self, buffer: &mut hb_buffer_t, behind: usize, left: End, right: End)
         requires { buffer.old.have_output ≡ false }
-        ensures closed { buffer.new.have_output ≡ false }
-        ensures keeps { KeepsClusters buffer.old buffer.new }
+        ensures { Stays buffer.old buffer.new }
     {
         let (start, end) = (self.start, self.end);
         let count = end.saturating_sub(start);
@@ -142,8 +141,7 @@ impl Rearrangement {
 /// Puts the two glyphs of an end in their order again, if they are to keep it.
 fn turn_two(buffer: &mut hb_buffer_t, end: End, start: usize)
     requires { buffer.old.have_output ≡ false }
-    ensures closed { buffer.new.have_output ≡ false }
-    ensures keeps { KeepsClusters buffer.old buffer.new }
+    ensures { Stays buffer.old buffer.new }
 {
     if end == End::Two {
         turn(buffer, start, start.saturating_add(2));
@@ -153,8 +151,7 @@ fn turn_two(buffer: &mut hb_buffer_t, end: End, start: usize)
 /// Puts the glyphs from a place to another into one cluster.
 fn merge(buffer: &mut hb_buffer_t, start: usize, end: usize)
     requires { buffer.old.have_output ≡ false }
-    ensures closed { buffer.new.have_output ≡ false }
-    ensures keeps { KeepsClusters buffer.old buffer.new }
+    ensures { Stays buffer.old buffer.new }
 {
     if start <= end && end <= buffer.len() {
         buffer.merge_clusters(start, end);
@@ -164,8 +161,7 @@ fn merge(buffer: &mut hb_buffer_t, start: usize, end: usize)
 /// Puts the glyphs from a place to another into reverse order, which are in one cluster, unless clusters may stand in any order.
 fn turn(buffer: &mut hb_buffer_t, start: usize, end: usize)
     requires { buffer.old.have_output ≡ false }
-    ensures closed { buffer.new.have_output ≡ false }
-    ensures keeps { KeepsClusters buffer.old buffer.new }
+    ensures { Stays buffer.old buffer.new }
 {
     if start <= end && end <= buffer.len() && may_turn(buffer, start, end) {
         buffer.reverse_range(start, end);

@@ -4,7 +4,7 @@ ghost use Rattle.std.specs.Prelude.{◌≡◌, bit_and, nat_eq, nat_lt, not, vec
 ghost use Rattle.aat_substitution.specs.Actions.{flags_in};
 
 use crate::chain_flags::ChainFlags;
-use aat_tables::StateTable;
+use aat_tables::{StateTable, Subtable};
 use font_tables::gdef::Gdef;
 
 /// The flag of an entry that says that the next state is at the same glyph.
@@ -17,8 +17,8 @@ pub(crate) struct Reach<'a> {
     pub flags: &'a ChainFlags,
     /// The number of the chain.
     pub chain: usize,
-    /// The flags of the subtable.
-    pub subtable: u32,
+    /// The subtable.
+    pub subtable: &'a Subtable<'a>,
 }
 
 impl Reach<'_> {
@@ -31,9 +31,9 @@ impl Reach<'_> {
 
     /// Whether the subtable is applied in a part.
     pub(crate) fn reaches(&self, part: usize) -> bool
-        ensures { result ≡ not (nat_eq (bit_and (flags_in self.now.flags.now self.now.chain part) self.now.subtable) 0) }
+        ensures { result ≡ not (nat_eq (bit_and (flags_in self.now.flags.now self.now.chain part) self.now.subtable.now.flags) 0) }
     {
-        self.flags.flags(self.chain, part) & self.subtable != 0
+        self.flags.flags(self.chain, part) & self.subtable.flags != 0
     }
 }
 

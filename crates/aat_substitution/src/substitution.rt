@@ -3,18 +3,17 @@
 ghost use Rattle.std.specs.Prelude.{◌≡◌, ◌<◌, ◌≤◌, true, false, length, IfOk};
 ghost use Rattle.shaping_buffer.specs.KeepsClusters.{KeepsClusters};
 ghost use Rattle.aat_substitution.specs.Actions.{is_for_line, is_reversed};
-ghost use Rattle.aat_substitution.specs.Left.{IsLeftClosed};
-ghost use Rattle.ot_layout.specs.Budget.{IsNotMore};
+ghost use Rattle.aat_substitution.specs.Left.{Closes, IsLeftClosed, Stays, TurnsBack};
 ghost use Rattle.shaping_passes.specs.Refusals.{IsRefusal};
 
 use crate::action::Action;
 use crate::chain_flags::ChainFlags;
 use crate::noncontextual::replace_all;
 use crate::setting::{Reach, Setting};
-use crate::work::Work;
+use crate::work::{Done, Work};
 use crate::writing::fail;
 use aat_tables::metamorphosis::SubtableCoverage;
-use aat_tables::{Lookup, Metamorphosis, StateTable, Subtable};
+use aat_tables::{Lookup, Metamorphosis, StateTable};
 use font_tables::gdef::Gdef;
 use shaping_buffer::{Direction, hb_buffer_t};
 use std::alloc::AllocError;
@@ -44,7 +43,7 @@ pub fn substitute(buffer: &mut hb_buffer_t, substitution: &Substitution) -> Resu
     let mut work = Work::new(buffer.max_ops, buffer.info());
     mark_concat(buffer);
     for chain in 0..substitution.table.chains.len() {
-        if !apply_chain(buffer, substitution, chain, &mut work)? {
+        if !substitution.apply_chain(buffer, chain, &mut work)? {
             return Ok(false);
         }
     }
@@ -54,41 +53,83 @@ pub fn substitute(buffer: &mut hb_buffer_t, substitution: &Substitution) -> Resu
 /// Marks the whole text as unsafe to concatenate.
 fn mark_concat(buffer: &mut hb_buffer_t)
     requires { buffer.old.have_output ≡ false }
-    ensures closed { buffer.new.have_output ≡ false }
-    ensures keeps { KeepsClusters buffer.old buffer.new }
+    ensures { Stays buffer.old buffer.new }
 {
     buffer.unsafe_to_concat(None, None);
 }
 
-/// Applies the subtables of a chain whose flags are on.
-fn apply_chain(
-    buffer: &mut hb_buffer_t,
-    substitution: &Substitution,
-    chain: usize,
-    work: &mut Work,
-) -> Result<bool, AllocError>
-    requires { buffer.old.have_output ≡ false }
-    ensures left { IsLeftClosed result buffer.new }
-    ensures refusal { IsRefusal false result buffer.new }
-    ensures keeps { IfOk result (λ done. done ≡ true → KeepsClusters buffer.old buffer.new) }
-{
-    let Some(row) = substitution.table.chains.get(chain) else {
-        return Ok(true);
-    };
-    for subtable in substitution.table.subtables_of(row) {
-        let reach = Reach {
-            flags: substitution.flags,
-            chain,
-            subtable: subtable.flags,
+impl Substitution<'_> {
+    /// Applies the subtables of a chain whose flags are on.
+    fn apply_chain(&self, buffer: &mut hb_buffer_t, chain: usize, work: &mut Work) -> Done
+        requires { buffer.old.have_output ≡ false }
+        ensures { TurnsBack result buffer.old buffer.new }
+    {
+        let Some(row) = self.table.chains.get(chain) else {
+            return Ok(true);
         };
-        if substitution.flags.has_any(chain, subtable.flags)
-            && is_for(subtable.coverage, buffer.direction)
-            && !apply_subtable(buffer, substitution, subtable, &reach, work)?
-        {
+        for subtable in self.table.subtables_of(row) {
+            let reach = Reach {
+                flags: self.flags,
+                chain,
+                subtable,
+            };
+            if self.flags.has_any(chain, subtable.flags)
+                && is_for(subtable.coverage, buffer.direction)
+                && !self.apply_subtable(buffer, &reach, work)?
+            {
+                return Ok(false);
+            }
+        }
+        Ok(true)
+    }
+
+    /// Applies a subtable in its order.
+    #[tactic(auto, using(crate::proofs::TurnLemmas::turned))]
+    fn apply_subtable(&self, buffer: &mut hb_buffer_t, reach: &Reach, work: &mut Work) -> Done
+        requires { buffer.old.have_output ≡ false }
+        ensures { TurnsBack result buffer.old buffer.new }
+    {
+        if !is_reversed(reach.subtable.coverage, buffer.direction) {
+            return self.apply(buffer, reach, work);
+        }
+        buffer.reverse();
+        if !self.apply(buffer, reach, work)? {
             return Ok(false);
         }
+        buffer.reverse();
+        Ok(true)
     }
-    Ok(true)
+
+    /// Applies a subtable from the first glyph on.
+    fn apply(&self, buffer: &mut hb_buffer_t, reach: &Reach, work: &mut Work) -> Done
+        requires { buffer.old.have_output ≡ false }
+        ensures { Closes result buffer.old buffer.new work.old work.new }
+    {
+        let subtable = reach.subtable;
+        let glyph_count = self.table.glyph_count;
+        if !work.budget.pay(1) {
+            fail(buffer);
+            return Ok(true);
+        }
+        let Some(mut action) = Action::of(subtable, glyph_count) else {
+            let lookup = Lookup::new(subtable.table, glyph_count);
+            replace_all(buffer, &lookup, reach, self.gdef, work);
+            return Ok(true);
+        };
+        let data_count = subtable.kind.data_count();
+        let Some(machine) = StateTable::new(subtable.table, glyph_count, data_count) else {
+            return Ok(true);
+        };
+        let setting = Setting {
+            machine,
+            reach: *reach,
+            gdef: self.gdef,
+        };
+        if setting.passes_unknown_glyphs(buffer, &action) && !work.digest.meets(&subtable.digest) {
+            return Ok(true);
+        }
+        setting.drive(buffer, &mut action, work)
+    }
 }
 
 /// Whether a subtable is for lines that run in a direction.
@@ -107,68 +148,4 @@ fn is_reversed(coverage: SubtableCoverage, direction: Direction) -> bool
     } else {
         coverage.is_backwards != direction.is_backward()
     }
-}
-
-/// Applies a subtable in its order.
-#[tactic(auto, using(crate::proofs::TurnLemmas::turned))]
-fn apply_subtable(
-    buffer: &mut hb_buffer_t,
-    substitution: &Substitution,
-    subtable: &Subtable,
-    reach: &Reach,
-    work: &mut Work,
-) -> Result<bool, AllocError>
-    requires { buffer.old.have_output ≡ false }
-    ensures left { IsLeftClosed result buffer.new }
-    ensures refusal { IsRefusal false result buffer.new }
-    ensures keeps { IfOk result (λ done. done ≡ true → KeepsClusters buffer.old buffer.new) }
-{
-    if !is_reversed(subtable.coverage, buffer.direction) {
-        return apply(buffer, substitution, subtable, reach, work);
-    }
-    buffer.reverse();
-    if !apply(buffer, substitution, subtable, reach, work)? {
-        return Ok(false);
-    }
-    buffer.reverse();
-    Ok(true)
-}
-
-/// Applies a subtable from the first glyph on.
-fn apply(
-    buffer: &mut hb_buffer_t,
-    substitution: &Substitution,
-    subtable: &Subtable,
-    reach: &Reach,
-    work: &mut Work,
-) -> Result<bool, AllocError>
-    requires { buffer.old.have_output ≡ false }
-    ensures left { IsLeftClosed result buffer.new }
-    ensures spent { IsNotMore work.old.budget work.new.budget }
-    ensures refusal { IsRefusal false result buffer.new }
-    ensures keeps { KeepsClusters buffer.old buffer.new }
-{
-    let glyph_count = substitution.table.glyph_count;
-    if !work.budget.pay(1) {
-        fail(buffer);
-        return Ok(true);
-    }
-    let Some(mut action) = Action::of(subtable, glyph_count) else {
-        let lookup = Lookup::new(subtable.table, glyph_count);
-        replace_all(buffer, &lookup, reach, substitution.gdef, work);
-        return Ok(true);
-    };
-    let data_count = subtable.kind.data_count();
-    let Some(machine) = StateTable::new(subtable.table, glyph_count, data_count) else {
-        return Ok(true);
-    };
-    let setting = Setting {
-        machine,
-        reach: *reach,
-        gdef: substitution.gdef,
-    };
-    if setting.passes_unknown_glyphs(buffer, &action) && !work.digest.meets(&subtable.digest) {
-        return Ok(true);
-    }
-    setting.drive(buffer, &mut action, work)
 }

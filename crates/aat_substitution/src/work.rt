@@ -6,6 +6,10 @@ ghost use Rattle.ot_layout.specs.Budget.{IsNotMore, steps_for};
 use glyph_digests::Digest;
 use ot_layout::Budget;
 use rb_glyph::hb_glyph_info_t;
+use std::alloc::AllocError;
+
+/// Whether all was done: `Ok(false)` where the buffer refused a call for length, `Err(AllocError)` where memory ran out.
+pub(crate) type Done = Result<bool, AllocError>;
 
 /// In texts of so many glyphs and more it is not asked which glyphs there are (HarfBuzz, `HB_AAT_BUFFER_DIGEST_THRESHOLD`).
 const DIGEST_THRESHOLD: usize = 32;

@@ -2,17 +2,13 @@
 
 ghost use Rattle.std.specs.Prelude.{◌≡◌, ◌≢◌, ◌<◌, ℕ, true, false, length, slice_index_or};
 ghost use Rattle.shaping_buffer.specs.Clusters.{clusters, zero_glyph};
-ghost use Rattle.shaping_buffer.specs.KeepsClusters.{KeepsClusters};
-ghost use Rattle.aat_substitution.specs.Left.{IsLeftOpen};
-ghost use Rattle.ot_layout.specs.Budget.{IsNotMore};
-ghost use Rattle.shaping_passes.specs.Refusals.{IsRefusal};
+ghost use Rattle.aat_substitution.specs.Left.{Stays, Works};
 
-use crate::work::Work;
+use crate::work::{Done, Work};
 use font_tables::gdef::Gdef;
 use rb_common::GlyphId;
 use rb_glyph::hb_glyph_info_t;
 use shaping_buffer::hb_buffer_t;
-use std::alloc::AllocError;
 
 /// The Unicode property of a character that is invisible by default.
 const IGNORABLE: u16 = 0x0020;
@@ -34,8 +30,7 @@ pub(crate) fn set_glyph(glyphs: &mut [hb_glyph_info_t], place: usize, glyph: u16
 /// Puts a glyph in the place of that at a place of the buffer.
 pub(crate) fn replace_at(buffer: &mut hb_buffer_t, place: usize, glyph: u16, gdef: &Gdef)
     requires { buffer.old.have_output ≡ false }
-    ensures closed { buffer.new.have_output ≡ false }
-    ensures keeps { KeepsClusters buffer.old buffer.new }
+    ensures { Stays buffer.old buffer.new }
 {
     set_glyph(buffer.info_slice_mut(), place, glyph, gdef);
 }
@@ -44,9 +39,8 @@ pub(crate) fn replace_at(buffer: &mut hb_buffer_t, place: usize, glyph: u16, gde
 pub(crate) fn hide_current(buffer: &mut hb_buffer_t)
     requires opened { buffer.old.have_output ≡ true }
     requires glyph { 0 < length buffer.old.input }
-    ensures opened { buffer.new.have_output ≡ true }
     ensures same_length { length buffer.new.input ≡ length buffer.old.input }
-    ensures keeps { KeepsClusters buffer.old buffer.new }
+    ensures stays { Stays buffer.old buffer.new }
 {
     let written = buffer.cur_mut(0);
     written.set_unicode_props(written.unicode_props() | IGNORABLE);
@@ -55,24 +49,15 @@ pub(crate) fn hide_current(buffer: &mut hb_buffer_t)
 /// Says that shaping met a limit.
 pub(crate) fn fail(buffer: &mut hb_buffer_t)
     ensures failed { buffer.new.shaping_failed ≡ true }
-    ensures same_output { buffer.new.have_output ≡ buffer.old.have_output }
-    ensures keeps { KeepsClusters buffer.old buffer.new }
+    ensures stays { Stays buffer.old buffer.new }
 {
     buffer.shaping_failed = true;
 }
 
-/// Moves the cursor to a place of both sides, or as near to it as there are glyphs. `Ok(false)` where the buffer refused a call for
-/// length.
-pub(crate) fn go_to(
-    buffer: &mut hb_buffer_t,
-    place: usize,
-    work: &mut Work,
-) -> Result<bool, AllocError>
+/// Moves the cursor to a place of both sides, or as near to it as there are glyphs.
+pub(crate) fn go_to(buffer: &mut hb_buffer_t, place: usize, work: &mut Work) -> Done
     requires { buffer.old.have_output ≡ true }
-    ensures left { IsLeftOpen result buffer.new }
-    ensures spent { IsNotMore work.old.budget work.new.budget }
-    ensures refusal { IsRefusal false result buffer.new }
-    ensures keeps { KeepsClusters buffer.old buffer.new }
+    ensures { Works false result buffer.old buffer.new work.old work.new }
 {
     let out_len = buffer.out_len();
     work.budget.pay_for(out_len.abs_diff(place));

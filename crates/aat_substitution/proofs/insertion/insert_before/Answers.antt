@@ -1,4 +1,4 @@
-use Rattle.std.proofs.Common.{Bool, subst, arith}
+use Rattle.std.proofs.Common.{Bool, refl, subst, ◌∙◌, arith}
 use Rattle.shaping_buffer.proofs.KeepsLemmas.{keeps_none, keeps_then}
 use Rattle.aat_substitution.specs.Insertions.{Gives, put_one}
 use Rattle.aat_substitution.proofs.InsertionLemmas.{puts_all, puts_more, puts_none, puts_refused}
@@ -6,8 +6,7 @@ use Rattle.aat_substitution.proofs.insertion.insert_before.Goals as goal
 
 pub loop-place-init : goal.loop-place-init
 loop-place-init c = record {
-  opened = c.requires;
-  keeps = keeps_none c.args.buffer.now;
+  stays = record { left = refl; keeps = keeps_none c.args.buffer.now };
   puts = puts_none c.args.inserted.now.glyphs.now c.args.buffer.now;
 }
 
@@ -27,8 +26,10 @@ loop-place-preserved c =
     let b = c.loop-place.buffer in
     let new = c.put_one.new.buffer in
     record {
-      opened = c.in_ok-put_one.ensures.left;
-      keeps = keeps_then c.args.buffer.now b new c.loop-place.invariant.keeps c.put_one.ensures.keeps;
+      stays = record {
+        left = c.in_ok-put_one.ensures.stays.left ∙ c.loop-place.invariant.stays.left;
+        keeps = keeps_then c.args.buffer.now b new c.loop-place.invariant.stays.keeps c.put_one.ensures.stays.keeps;
+      };
       puts = puts_more glyphs c.args.buffer.now c.loop-place.place b new c.loop-place.invariant.puts
           (subst (λ (d : Bool). Gives (put_one glyphs c.loop-place.place b) d new) c.if-not-branch.false
           c.in_ok-put_one.ensures.gives);

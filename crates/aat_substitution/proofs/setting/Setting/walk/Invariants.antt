@@ -1,9 +1,6 @@
-use Rattle.std.proofs.Common.{◌≡◌}
-use Rattle.shaping_buffer.specs.KeepsClusters.{KeepsClusters}
 use Rattle.ot_layout.specs.Budget.{IsNotMore}
+use Rattle.aat_substitution.specs.Left.{Stays}
 use Rattle.aat_substitution.proofs.setting.Setting.walk.Given as goal
 
 abbrev pub invariant-loop-turn : goal.invariant-loop-turn
-invariant-loop-turn l =
-    (l.buffer.have_output ≡ l.fn.buffer.have_output) × KeepsClusters l.fn.buffer l.buffer
-    × IsNotMore l.fn.work.budget l.work.budget
+invariant-loop-turn l = Stays l.fn.buffer l.buffer × IsNotMore l.fn.work.budget l.work.budget
