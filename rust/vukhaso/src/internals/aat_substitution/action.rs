@@ -6,11 +6,10 @@ use crate::aat_substitution::contextual::Contextual;
 use crate::aat_substitution::insertion::Insertion;
 use crate::aat_substitution::ligature::Ligature;
 use crate::aat_substitution::rearrangement::Rearrangement;
-use crate::aat_substitution::work::Work;
+use crate::aat_substitution::work::{Done, Work};
 use crate::aat_tables::{Entry, Subtable, SubtableKind};
 use crate::buffer::hb_buffer_t;
 use crate::font_tables::gdef::Gdef;
-use crate::memory::AllocError;
 
 /// What a subtable does, by its kind.
 #[derive(Clone, Copy, Debug)]
@@ -60,17 +59,13 @@ impl<'a> Action<'a> {
     }
 
     /// Does what an entry says, at the cursor.
-    ///
-    /// # Errors
-    ///
-    /// `Ok(false)` where the buffer refused a call for length.
     pub(crate) fn transition(
         &mut self,
         buffer: &mut hb_buffer_t,
         entry: &Entry,
         gdef: &Gdef,
         work: &mut Work,
-    ) -> Result<bool, AllocError> {
+    ) -> Done {
         if buffer.have_output() {
             return self.put_out(buffer, entry, work);
         }
@@ -86,8 +81,8 @@ impl<'a> Action<'a> {
     fn change(&mut self, buffer: &mut hb_buffer_t, entry: &Entry, gdef: &Gdef, work: &mut Work) {
         debug_assert!(!buffer.have_output());
         match self {
-            Action::Rearrangement(rearrangement) => rearrangement.transition(buffer, entry),
-            Action::Contextual(contextual) => contextual.transition(buffer, entry, gdef, work),
+            Action::Rearrangement(rearrangement) => rearrangement.obey(buffer, entry),
+            Action::Contextual(contextual) => contextual.obey(buffer, entry, gdef, work),
             Action::Ligature(_) | Action::Insertion(_) => {}
         }
     }
@@ -97,20 +92,11 @@ impl<'a> Action<'a> {
     /// # Requires
     ///
     /// - `buffer.old.have_output ≡ true`
-    ///
-    /// # Errors
-    ///
-    /// `Ok(false)` where the buffer refused a call for length.
-    fn put_out(
-        &mut self,
-        buffer: &mut hb_buffer_t,
-        entry: &Entry,
-        work: &mut Work,
-    ) -> Result<bool, AllocError> {
+    fn put_out(&mut self, buffer: &mut hb_buffer_t, entry: &Entry, work: &mut Work) -> Done {
         debug_assert!(buffer.have_output());
         match self {
-            Action::Ligature(ligature) => ligature.transition(buffer, entry, work),
-            Action::Insertion(insertion) => insertion.transition(buffer, entry, work),
+            Action::Ligature(ligature) => ligature.obey(buffer, entry, work),
+            Action::Insertion(insertion) => insertion.obey(buffer, entry, work),
             Action::Rearrangement(_) | Action::Contextual(_) => Ok(true),
         }
     }

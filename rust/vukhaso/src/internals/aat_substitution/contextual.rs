@@ -52,7 +52,7 @@ impl<'a> Contextual<'a> {
     /// # Requires
     ///
     /// - `buffer.old.have_output ≡ false`
-    pub(crate) fn transition(
+    pub(crate) fn obey(
         &mut self,
         buffer: &mut hb_buffer_t,
         entry: &Entry,

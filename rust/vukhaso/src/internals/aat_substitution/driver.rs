@@ -4,7 +4,7 @@
 
 use crate::aat_substitution::action::Action;
 use crate::aat_substitution::setting::{DONT_ADVANCE, Setting};
-use crate::aat_substitution::work::Work;
+use crate::aat_substitution::work::{Done, Work};
 use crate::aat_substitution::writing::fail;
 use crate::aat_tables::Entry;
 use crate::aat_tables::state_table::{END_OF_TEXT, OUT_OF_BOUNDS, START_OF_TEXT};
@@ -43,21 +43,17 @@ impl Setting<'_> {
         }
     }
 
-    /// Goes over a text from its start.
+    /// Goes over a text from its start. Where the buffer refused a call, an output may still be open.
     ///
     /// # Requires
     ///
     /// - `buffer.old.have_output ≡ false`
-    ///
-    /// # Errors
-    ///
-    /// `Ok(false)` where the buffer refused a call for length: an output may still be open then.
     pub(crate) fn drive(
         &self,
         buffer: &mut hb_buffer_t,
         action: &mut Action,
         work: &mut Work,
-    ) -> Result<bool, AllocError> {
+    ) -> Done {
         debug_assert!(!buffer.have_output());
         if action.is_in_place() {
             return self.drive_in_place(buffer, action, work);
@@ -79,7 +75,7 @@ impl Setting<'_> {
         buffer: &mut hb_buffer_t,
         action: &mut Action,
         work: &mut Work,
-    ) -> Result<bool, AllocError> {
+    ) -> Done {
         debug_assert!(!buffer.have_output());
         if !buffer.move_to(0)? {
             return Ok(false);
@@ -88,12 +84,7 @@ impl Setting<'_> {
     }
 
     /// Goes over a text from the cursor on, step by step.
-    fn walk(
-        &self,
-        buffer: &mut hb_buffer_t,
-        action: &mut Action,
-        work: &mut Work,
-    ) -> Result<bool, AllocError> {
+    fn walk(&self, buffer: &mut hb_buffer_t, action: &mut Action, work: &mut Work) -> Done {
         let mut place = Place {
             state: START_OF_TEXT,
             part: 0,

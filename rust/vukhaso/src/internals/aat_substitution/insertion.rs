@@ -3,12 +3,11 @@
 //! Subtables that put glyphs in, before or behind others.
 
 use crate::aat_substitution::setting::DONT_ADVANCE;
-use crate::aat_substitution::work::Work;
+use crate::aat_substitution::work::{Done, Work};
 use crate::aat_substitution::writing::go_to;
 use crate::aat_tables::Entry;
 use crate::buffer::hb_buffer_t;
 use crate::font_tables::bytes::{part, tail, u16_at, u32_at};
-use crate::memory::AllocError;
 
 /// The current glyph is marked.
 const SET_MARK: u16 = 0x8000;
@@ -90,16 +89,12 @@ impl<'a> Insertion<'a> {
     /// # Requires
     ///
     /// - `buffer.old.have_output ≡ true`
-    ///
-    /// # Errors
-    ///
-    /// `Ok(false)` where the buffer refused a call for length.
-    pub(crate) fn transition(
+    pub(crate) fn obey(
         &mut self,
         buffer: &mut hb_buffer_t,
         entry: &Entry,
         work: &mut Work,
-    ) -> Result<bool, AllocError> {
+    ) -> Done {
         debug_assert!(buffer.have_output());
         let mark = buffer.out_len();
         if entry.data[1] != NONE {
@@ -108,7 +103,7 @@ impl<'a> Insertion<'a> {
                 return Ok(true);
             }
             let inserted = self.inserted(entry.data[1], count, entry.flags & MARKED_BEFORE != 0);
-            if !insert_at_mark(buffer, self.mark, &inserted, work)? {
+            if !insert_at(buffer, self.mark, &inserted, work)? {
                 return Ok(false);
             }
         }
@@ -118,23 +113,13 @@ impl<'a> Insertion<'a> {
         self.insert_at_cursor(buffer, entry, work)
     }
 
-    /// Puts the glyphs in that an entry has for the current glyph.
-    ///
-    /// Where the next state is at the same glyph, it sees them.
+    /// Puts the glyphs in that an entry has for the current glyph. Where the next state is at the same
+    /// glyph, it sees them.
     ///
     /// # Requires
     ///
     /// - `buffer.old.have_output ≡ true`
-    ///
-    /// # Errors
-    ///
-    /// `Ok(false)` where the buffer refused a call for length.
-    fn insert_at_cursor(
-        &self,
-        buffer: &mut hb_buffer_t,
-        entry: &Entry,
-        work: &mut Work,
-    ) -> Result<bool, AllocError> {
+    fn insert_at_cursor(&self, buffer: &mut hb_buffer_t, entry: &Entry, work: &mut Work) -> Done {
         debug_assert!(buffer.have_output());
         let count = entry.flags / CURRENT_COUNT_UNIT % 32;
         if entry.data[0] == NONE || !work.insert(count) {
@@ -159,27 +144,15 @@ impl<'a> Insertion<'a> {
 /// # Requires
 ///
 /// - `buffer.old.have_output ≡ true`
-///
-/// # Errors
-///
-/// `Ok(false)` where the buffer refused a call for length.
-fn insert_at_mark(
-    buffer: &mut hb_buffer_t,
-    mark: usize,
-    inserted: &Inserted,
-    work: &mut Work,
-) -> Result<bool, AllocError> {
+fn insert_at(buffer: &mut hb_buffer_t, mark: usize, inserted: &Inserted, work: &mut Work) -> Done {
     debug_assert!(buffer.have_output());
     let end = buffer.out_len();
     if !go_to(buffer, mark, work)? || !insert(buffer, inserted)? {
         return Ok(false);
     }
     add_glyphs(work, inserted);
-    if !go_to(
-        buffer,
-        end.saturating_add(usize::from(inserted.count)),
-        work,
-    )? {
+    let behind = end.saturating_add(usize::from(inserted.count));
+    if !go_to(buffer, behind, work)? {
         return Ok(false);
     }
     mark_break(buffer, mark);
@@ -214,11 +187,7 @@ fn mark_break(buffer: &mut hb_buffer_t, from: usize) {
 /// # Requires
 ///
 /// - `buffer.old.have_output ≡ true`
-///
-/// # Errors
-///
-/// `Ok(false)` where the buffer refused a call for length.
-fn insert(buffer: &mut hb_buffer_t, inserted: &Inserted) -> Result<bool, AllocError> {
+fn insert(buffer: &mut hb_buffer_t, inserted: &Inserted) -> Done {
     debug_assert!(buffer.have_output());
     if buffer.lookahead_len() == 0 || inserted.is_before {
         return insert_before(buffer, inserted);
@@ -231,11 +200,7 @@ fn insert(buffer: &mut hb_buffer_t, inserted: &Inserted) -> Result<bool, AllocEr
 /// # Requires
 ///
 /// - `buffer.old.have_output ≡ true`
-///
-/// # Errors
-///
-/// `Ok(false)` where the buffer refused a call for length.
-fn insert_before(buffer: &mut hb_buffer_t, inserted: &Inserted) -> Result<bool, AllocError> {
+fn insert_before(buffer: &mut hb_buffer_t, inserted: &Inserted) -> Done {
     debug_assert!(buffer.have_output());
     for place in 0..inserted.count {
         if !put_one(buffer, inserted, place)? {
@@ -250,11 +215,7 @@ fn insert_before(buffer: &mut hb_buffer_t, inserted: &Inserted) -> Result<bool, 
 /// # Requires
 ///
 /// - `buffer.old.have_output ≡ true`
-///
-/// # Errors
-///
-/// `Ok(false)` where the buffer refused a call for length.
-fn put_one(buffer: &mut hb_buffer_t, inserted: &Inserted, place: u16) -> Result<bool, AllocError> {
+fn put_one(buffer: &mut hb_buffer_t, inserted: &Inserted, place: u16) -> Done {
     debug_assert!(buffer.have_output());
     buffer.output_glyph(inserted.glyph_at(place))
 }
@@ -265,11 +226,7 @@ fn put_one(buffer: &mut hb_buffer_t, inserted: &Inserted, place: u16) -> Result<
 ///
 /// - `opened: buffer.old.have_output ≡ true`
 /// - `glyph: 0 < length buffer.old.input`
-///
-/// # Errors
-///
-/// `Ok(false)` where the buffer refused a call for length.
-fn insert_behind(buffer: &mut hb_buffer_t, inserted: &Inserted) -> Result<bool, AllocError> {
+fn insert_behind(buffer: &mut hb_buffer_t, inserted: &Inserted) -> Done {
     debug_assert!(buffer.have_output());
     debug_assert!(!buffer.info().is_empty());
     let ids = glyphs_behind(buffer.cur(0).glyph_id, inserted);

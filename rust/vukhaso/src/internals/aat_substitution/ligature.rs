@@ -2,7 +2,7 @@
 
 //! Subtables that make ligatures: components are pushed on a stack, and ligatures made of those on its top.
 
-use crate::aat_substitution::work::Work;
+use crate::aat_substitution::work::{Done, Work};
 use crate::aat_substitution::writing::{go_to, hide_current};
 use crate::aat_tables::Entry;
 use crate::aat_tables::lookup::DELETED_GLYPH;
@@ -83,16 +83,12 @@ impl<'a> Ligature<'a> {
     /// # Requires
     ///
     /// - `buffer.old.have_output ≡ true`
-    ///
-    /// # Errors
-    ///
-    /// `Ok(false)` where the buffer refused a call for length.
-    pub(crate) fn transition(
+    pub(crate) fn obey(
         &mut self,
         buffer: &mut hb_buffer_t,
         entry: &Entry,
         work: &mut Work,
-    ) -> Result<bool, AllocError> {
+    ) -> Done {
         debug_assert!(buffer.have_output());
         if entry.flags & SET_COMPONENT != 0 {
             self.push(buffer.out_len());
@@ -121,16 +117,7 @@ impl<'a> Ligature<'a> {
     /// # Requires
     ///
     /// - `buffer.old.have_output ≡ true`
-    ///
-    /// # Errors
-    ///
-    /// `Ok(false)` where the buffer refused a call for length.
-    fn perform(
-        &mut self,
-        buffer: &mut hb_buffer_t,
-        first: u16,
-        work: &mut Work,
-    ) -> Result<bool, AllocError> {
+    fn perform(&mut self, buffer: &mut hb_buffer_t, first: u16, work: &mut Work) -> Done {
         debug_assert!(buffer.have_output());
         let mut ligature = 0;
         let count = self.count;
@@ -195,39 +182,35 @@ impl<'a> Ligature<'a> {
         u16_at(self.components, place as usize * 2)
     }
 
-    /// Puts a ligature in the place of the current glyph, which is a component, and deletes the components
-    /// behind it.
+    /// Puts a ligature in the place of the current glyph, which is its first component, and deletes the
+    /// components behind it.
     ///
     /// # Requires
     ///
     /// - `buffer.old.have_output ≡ true`
-    ///
-    /// # Errors
-    ///
-    /// `Ok(false)` where the buffer refused a call for length.
     fn store(
         &mut self,
         buffer: &mut hb_buffer_t,
-        component: usize,
+        first: usize,
         glyph: u16,
         work: &mut Work,
-    ) -> Result<bool, AllocError> {
+    ) -> Done {
         debug_assert!(buffer.have_output());
         if !put(buffer, glyph)? {
             return Ok(false);
         }
         let last = self.count.saturating_sub(1);
         let end = self.place(last).saturating_add(1);
-        for turn in 0..last.saturating_sub(component) {
+        for turn in 0..last.saturating_sub(first) {
             if !delete_at(buffer, self.place(last.saturating_sub(turn)), work)? {
                 return Ok(false);
             }
         }
-        self.count = component.saturating_add(1);
+        self.count = first.saturating_add(1);
         if !go_to(buffer, end, work)? {
             return Ok(false);
         }
-        merge(buffer, self.place(component));
+        merge(buffer, self.place(first));
         Ok(true)
     }
 }
@@ -247,11 +230,7 @@ fn component_of(glyph: u32, action: u32) -> u32 {
 /// # Requires
 ///
 /// - `buffer.old.have_output ≡ true`
-///
-/// # Errors
-///
-/// `Ok(false)` where the buffer refused a call for length.
-fn put(buffer: &mut hb_buffer_t, glyph: u16) -> Result<bool, AllocError> {
+fn put(buffer: &mut hb_buffer_t, glyph: u16) -> Done {
     debug_assert!(buffer.have_output());
     if buffer.lookahead_len() == 0 {
         return Ok(true);
@@ -264,11 +243,7 @@ fn put(buffer: &mut hb_buffer_t, glyph: u16) -> Result<bool, AllocError> {
 /// # Requires
 ///
 /// - `buffer.old.have_output ≡ true`
-///
-/// # Errors
-///
-/// `Ok(false)` where the buffer refused a call for length.
-fn delete_at(buffer: &mut hb_buffer_t, place: usize, work: &mut Work) -> Result<bool, AllocError> {
+fn delete_at(buffer: &mut hb_buffer_t, place: usize, work: &mut Work) -> Done {
     debug_assert!(buffer.have_output());
     if !go_to(buffer, place, work)? {
         return Ok(false);
@@ -281,11 +256,7 @@ fn delete_at(buffer: &mut hb_buffer_t, place: usize, work: &mut Work) -> Result<
 /// # Requires
 ///
 /// - `buffer.old.have_output ≡ true`
-///
-/// # Errors
-///
-/// `Ok(false)` where the buffer refused a call for length.
-fn delete(buffer: &mut hb_buffer_t) -> Result<bool, AllocError> {
+fn delete(buffer: &mut hb_buffer_t) -> Done {
     debug_assert!(buffer.have_output());
     if buffer.lookahead_len() == 0 {
         return Ok(true);

@@ -88,7 +88,7 @@ impl Rearrangement {
     /// # Requires
     ///
     /// - `buffer.old.have_output ≡ false`
-    pub(crate) fn transition(&mut self, buffer: &mut hb_buffer_t, entry: &Entry) {
+    pub(crate) fn obey(&mut self, buffer: &mut hb_buffer_t, entry: &Entry) {
         debug_assert!(!buffer.have_output());
         if entry.flags & MARK_FIRST != 0 {
             self.start = buffer.idx();

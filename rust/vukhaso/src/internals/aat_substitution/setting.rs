@@ -3,7 +3,7 @@
 //! A subtable as it is applied to a text.
 
 use crate::aat_substitution::chain_flags::ChainFlags;
-use crate::aat_tables::StateTable;
+use crate::aat_tables::{StateTable, Subtable};
 use crate::font_tables::gdef::Gdef;
 
 /// The flag of an entry that says that the next state is at the same glyph.
@@ -16,8 +16,8 @@ pub(crate) struct Reach<'a> {
     pub flags: &'a ChainFlags,
     /// The number of the chain.
     pub chain: usize,
-    /// The flags of the subtable.
-    pub subtable: u32,
+    /// The subtable.
+    pub subtable: &'a Subtable<'a>,
 }
 
 impl Reach<'_> {
@@ -28,7 +28,7 @@ impl Reach<'_> {
 
     /// Whether the subtable is applied in a part.
     pub(crate) fn reaches(&self, part: usize) -> bool {
-        self.flags.flags(self.chain, part) & self.subtable != 0
+        self.flags.flags(self.chain, part) & self.subtable.flags != 0
     }
 }
 

@@ -6,10 +6,10 @@ use crate::aat_substitution::action::Action;
 use crate::aat_substitution::chain_flags::ChainFlags;
 use crate::aat_substitution::noncontextual::replace_all;
 use crate::aat_substitution::setting::{Reach, Setting};
-use crate::aat_substitution::work::Work;
+use crate::aat_substitution::work::{Done, Work};
 use crate::aat_substitution::writing::fail;
 use crate::aat_tables::metamorphosis::SubtableCoverage;
-use crate::aat_tables::{Lookup, Metamorphosis, StateTable, Subtable};
+use crate::aat_tables::{Lookup, Metamorphosis, StateTable};
 use crate::buffer::{Direction, hb_buffer_t};
 use crate::font_tables::gdef::Gdef;
 use crate::memory::AllocError;
@@ -55,7 +55,7 @@ pub fn substitute(
     let mut work = Work::new(buffer.max_ops, buffer.info());
     mark_concat(buffer);
     for chain in 0..substitution.table.chains.len() {
-        if !apply_chain(buffer, substitution, chain, &mut work)? {
+        if !substitution.apply_chain(buffer, chain, &mut work)? {
             return Ok(false);
         }
     }
@@ -72,35 +72,83 @@ fn mark_concat(buffer: &mut hb_buffer_t) {
     buffer.unsafe_to_concat(None, None);
 }
 
-/// Applies the subtables of a chain whose flags are on.
-///
-/// # Requires
-///
-/// - `buffer.old.have_output ≡ false`
-fn apply_chain(
-    buffer: &mut hb_buffer_t,
-    substitution: &Substitution,
-    chain: usize,
-    work: &mut Work,
-) -> Result<bool, AllocError> {
-    debug_assert!(!buffer.have_output());
-    let Some(row) = substitution.table.chains.get(chain) else {
-        return Ok(true);
-    };
-    for subtable in substitution.table.subtables_of(row) {
-        let reach = Reach {
-            flags: substitution.flags,
-            chain,
-            subtable: subtable.flags,
+impl Substitution<'_> {
+    /// Applies the subtables of a chain whose flags are on.
+    ///
+    /// # Requires
+    ///
+    /// - `buffer.old.have_output ≡ false`
+    fn apply_chain(&self, buffer: &mut hb_buffer_t, chain: usize, work: &mut Work) -> Done {
+        debug_assert!(!buffer.have_output());
+        let Some(row) = self.table.chains.get(chain) else {
+            return Ok(true);
         };
-        if substitution.flags.has_any(chain, subtable.flags)
-            && is_for(subtable.coverage, buffer.direction)
-            && !apply_subtable(buffer, substitution, subtable, &reach, work)?
-        {
+        for subtable in self.table.subtables_of(row) {
+            let reach = Reach {
+                flags: self.flags,
+                chain,
+                subtable,
+            };
+            if self.flags.has_any(chain, subtable.flags)
+                && is_for(subtable.coverage, buffer.direction)
+                && !self.apply_subtable(buffer, &reach, work)?
+            {
+                return Ok(false);
+            }
+        }
+        Ok(true)
+    }
+
+    /// Applies a subtable in its order.
+    ///
+    /// # Requires
+    ///
+    /// - `buffer.old.have_output ≡ false`
+    fn apply_subtable(&self, buffer: &mut hb_buffer_t, reach: &Reach, work: &mut Work) -> Done {
+        debug_assert!(!buffer.have_output());
+        if !is_reversed(reach.subtable.coverage, buffer.direction) {
+            return self.apply(buffer, reach, work);
+        }
+        buffer.reverse();
+        if !self.apply(buffer, reach, work)? {
             return Ok(false);
         }
+        buffer.reverse();
+        Ok(true)
     }
-    Ok(true)
+
+    /// Applies a subtable from the first glyph on.
+    ///
+    /// # Requires
+    ///
+    /// - `buffer.old.have_output ≡ false`
+    fn apply(&self, buffer: &mut hb_buffer_t, reach: &Reach, work: &mut Work) -> Done {
+        debug_assert!(!buffer.have_output());
+        let subtable = reach.subtable;
+        let glyph_count = self.table.glyph_count;
+        if !work.budget.pay(1) {
+            fail(buffer);
+            return Ok(true);
+        }
+        let Some(mut action) = Action::of(subtable, glyph_count) else {
+            let lookup = Lookup::new(subtable.table, glyph_count);
+            replace_all(buffer, &lookup, reach, self.gdef, work);
+            return Ok(true);
+        };
+        let data_count = subtable.kind.data_count();
+        let Some(machine) = StateTable::new(subtable.table, glyph_count, data_count) else {
+            return Ok(true);
+        };
+        let setting = Setting {
+            machine,
+            reach: *reach,
+            gdef: self.gdef,
+        };
+        if setting.passes_unknown_glyphs(buffer, &action) && !work.digest.meets(&subtable.digest) {
+            return Ok(true);
+        }
+        setting.drive(buffer, &mut action, work)
+    }
 }
 
 /// Whether a subtable is for lines that run in a direction.
@@ -116,66 +164,4 @@ fn is_reversed(coverage: SubtableCoverage, direction: Direction) -> bool {
     } else {
         coverage.is_backwards != direction.is_backward()
     }
-}
-
-/// Applies a subtable in its order.
-///
-/// # Requires
-///
-/// - `buffer.old.have_output ≡ false`
-fn apply_subtable(
-    buffer: &mut hb_buffer_t,
-    substitution: &Substitution,
-    subtable: &Subtable,
-    reach: &Reach,
-    work: &mut Work,
-) -> Result<bool, AllocError> {
-    debug_assert!(!buffer.have_output());
-    if !is_reversed(subtable.coverage, buffer.direction) {
-        return apply(buffer, substitution, subtable, reach, work);
-    }
-    buffer.reverse();
-    if !apply(buffer, substitution, subtable, reach, work)? {
-        return Ok(false);
-    }
-    buffer.reverse();
-    Ok(true)
-}
-
-/// Applies a subtable from the first glyph on.
-///
-/// # Requires
-///
-/// - `buffer.old.have_output ≡ false`
-fn apply(
-    buffer: &mut hb_buffer_t,
-    substitution: &Substitution,
-    subtable: &Subtable,
-    reach: &Reach,
-    work: &mut Work,
-) -> Result<bool, AllocError> {
-    debug_assert!(!buffer.have_output());
-    let glyph_count = substitution.table.glyph_count;
-    if !work.budget.pay(1) {
-        fail(buffer);
-        return Ok(true);
-    }
-    let Some(mut action) = Action::of(subtable, glyph_count) else {
-        let lookup = Lookup::new(subtable.table, glyph_count);
-        replace_all(buffer, &lookup, reach, substitution.gdef, work);
-        return Ok(true);
-    };
-    let data_count = subtable.kind.data_count();
-    let Some(machine) = StateTable::new(subtable.table, glyph_count, data_count) else {
-        return Ok(true);
-    };
-    let setting = Setting {
-        machine,
-        reach: *reach,
-        gdef: substitution.gdef,
-    };
-    if setting.passes_unknown_glyphs(buffer, &action) && !work.digest.meets(&subtable.digest) {
-        return Ok(true);
-    }
-    setting.drive(buffer, &mut action, work)
 }

@@ -4,7 +4,11 @@
 
 use crate::glyph::hb_glyph_info_t;
 use crate::glyph_digests::Digest;
+use crate::memory::AllocError;
 use crate::ot_layout::Budget;
+
+/// Whether all was done: `Ok(false)` where the buffer refused a call for length, `Err(AllocError)` where memory ran out.
+pub(crate) type Done = Result<bool, AllocError>;
 
 /// In texts of so many glyphs and more it is not asked which glyphs there are (HarfBuzz, `HB_AAT_BUFFER_DIGEST_THRESHOLD`).
 const DIGEST_THRESHOLD: usize = 32;

@@ -2,12 +2,11 @@
 
 //! What subtables write beside the calls of the buffer: glyphs and their properties. No cluster changes by it.
 
-use crate::aat_substitution::work::Work;
+use crate::aat_substitution::work::{Done, Work};
 use crate::buffer::hb_buffer_t;
 use crate::common::GlyphId;
 use crate::font_tables::gdef::Gdef;
 use crate::glyph::hb_glyph_info_t;
-use crate::memory::AllocError;
 
 /// The Unicode property of a character that is invisible by default.
 const IGNORABLE: u16 = 0x0020;
@@ -55,15 +54,7 @@ pub(crate) fn fail(buffer: &mut hb_buffer_t) {
 /// # Requires
 ///
 /// - `buffer.old.have_output ≡ true`
-///
-/// # Errors
-///
-/// `Ok(false)` where the buffer refused a call for length.
-pub(crate) fn go_to(
-    buffer: &mut hb_buffer_t,
-    place: usize,
-    work: &mut Work,
-) -> Result<bool, AllocError> {
+pub(crate) fn go_to(buffer: &mut hb_buffer_t, place: usize, work: &mut Work) -> Done {
     debug_assert!(buffer.have_output());
     let out_len = buffer.out_len();
     work.budget.pay_for(out_len.abs_diff(place));
