@@ -208,8 +208,12 @@ clusters_bare [] = refl
 clusters_bare (g ∷ l) = ap (λ cs. g.cluster ∷ cs) (clusters_bare l)
 
 -- what leaves all else as it is keeps the clusters
-pub keeps_by : (s t : State) → s.out ≡ [] → t.out ≡ [] → untouched t ≡ untouched s → KeepsClusters s t
+pub keeps_untouched : (s t : State) → untouched t ≡ untouched s → KeepsClusters s t
 unfolding untouched
-keeps_by s t old new same =
-    keeps_sides s t (ap (λ (u : State). u.cluster_level) same) (ap clusters new ∙ sym (ap clusters old))
+keeps_untouched s t same =
+    keeps_sides s t (ap (λ (u : State). u.cluster_level) same) (ap (λ (u : State). clusters u.out) same)
     (sym (clusters_bare t.input) ∙ ap (λ (u : State). clusters u.input) same ∙ clusters_bare s.input)
+
+-- with no output open as well
+pub keeps_by : (s t : State) → s.out ≡ [] → t.out ≡ [] → untouched t ≡ untouched s → KeepsClusters s t
+keeps_by s t old new same = keeps_untouched s t same

@@ -6,6 +6,7 @@
 
 pub mod ChainLemmas
 pub mod FlagLemmas
+pub mod KeptLemmas
 pub mod OffsetsLemmas
 pub mod PlacesLemmas
 pub mod PositionsLemmas

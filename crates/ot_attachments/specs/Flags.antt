@@ -2,7 +2,7 @@
 use Rattle.std.specs.Prelude.{◌≡◌, ℕ, ◌/◌, ◌&&◌, Some, None, false, List, map, length, nat_le, nat_lt, bit_or, slice_index_or, if◌then◌else◌}
 use Rattle.std.specs.Int.{bit_at}
 use Rattle.rb_glyph.specs.declared.info.hb_glyph_info_t.{hb_glyph_info_t}
-use Rattle.shaping_buffer.specs.State.{State}
+use Rattle.shaping_buffer.specs.State.{HasPositions, State}
 use Rattle.shaping_buffer.specs.ClusterStep.{unsafe_to_break, unsafe_to_concat}
 use Rattle.ot_lookups.specs.LookupProps.{zero_glyph}
 
@@ -27,6 +27,12 @@ mask_at gs k = (slice_index_or gs k zero_glyph).mask
 -- no bit of a mask is taken away
 abbrev pub KeepsBits : List hb_glyph_info_t → List hb_glyph_info_t → Type 0
 KeepsBits old new = (k bit : ℕ) → bit_at (mask_at old k) bit ≡ 1 → bit_at (mask_at new k) bit ≡ 1
+
+-- What each step of positioning keeps: positions stay on, all that is untouched stays, and so does each bit of a mask.
+pub record KeepsText (old new : State) : Type 0 where
+  pub placed : HasPositions new
+  pub rest : untouched new ≡ untouched old
+  pub flags : KeepsBits old.input new.input
 
 -- glyphs from a place up to another are unsafe to break, where the range begins within the glyphs
 unfoldable pub break_marked : ℕ → ℕ → State → State

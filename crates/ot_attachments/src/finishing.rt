@@ -17,7 +17,7 @@ use shaping_buffer::{HB_BUFFER_SCRATCH_FLAG_HAS_GPOS_ATTACHMENT, hb_buffer_t};
 const MAX_NESTING_LEVEL: u32 = 64;
 
 /// Takes what glyphs are attached to from all positions.
-#[tactic(auto, using(crate::proofs::FlagLemmas::keeps_by, crate::proofs::PositionsLemmas::with_positions_detached, crate::proofs::FlagLemmas::untouched_with_positions))]
+#[tactic(auto, using(crate::proofs::FlagLemmas::keeps_untouched, crate::proofs::PositionsLemmas::with_positions_detached, crate::proofs::FlagLemmas::untouched_with_positions))]
 pub fn position_start(buffer: &mut hb_buffer_t)
     requires closed { buffer.old.have_output ≡ false }
     requires placed { IsSome buffer.old.positions }
@@ -26,9 +26,7 @@ pub fn position_start(buffer: &mut hb_buffer_t)
     ensures placed { IsSome buffer.new.positions }
     ensures keeps { KeepsClusters buffer.old buffer.new }
 {
-    prove!(buffer.out_len() == 0);
     detach_all(buffer.pos_mut());
-    prove!(buffer.out_len() == 0);
 }
 
 /// Takes what glyphs are attached to from all positions.
@@ -52,7 +50,7 @@ fn detach(position: &mut GlyphPosition)
 
 /// Moves each attached glyph to where the glyph stands that it is attached to: one that is joined gets that glyph's offset across the
 /// line, and a mark its offset, less the advances that lie between. No glyph is attached any more.
-#[tactic(auto, using(crate::proofs::FlagLemmas::keeps_by))]
+#[tactic(auto, using(crate::proofs::FlagLemmas::keeps_untouched, crate::proofs::FlagLemmas::untouched_with_positions), unfolding(crate::specs::Offsets::offsets_finished))]
 pub fn position_finish_offsets(buffer: &mut hb_buffer_t)
     requires closed { buffer.old.have_output ≡ false }
     requires placed { IsSome buffer.old.positions }
@@ -62,22 +60,6 @@ pub fn position_finish_offsets(buffer: &mut hb_buffer_t)
     ensures rest { untouched buffer.new ≡ untouched buffer.old }
     ensures flags { KeepsBits buffer.old.input buffer.new.input }
     ensures keeps { KeepsClusters buffer.old buffer.new }
-{
-    prove!(buffer.out_len() == 0);
-    propagate_all(buffer);
-    prove!(buffer.out_len() == 0);
-}
-
-/// Moves each attached glyph, if there are any.
-#[tactic(auto, using(crate::proofs::FlagLemmas::untouched_with_positions), unfolding(crate::specs::Offsets::offsets_finished))]
-fn propagate_all(buffer: &mut hb_buffer_t)
-    requires closed { buffer.old.have_output ≡ false }
-    requires placed { IsSome buffer.old.positions }
-    ensures is { buffer.new ≡ offsets_finished buffer.old }
-    ensures closed { buffer.new.have_output ≡ false }
-    ensures placed { IsSome buffer.new.positions }
-    ensures rest { untouched buffer.new ≡ untouched buffer.old }
-    ensures flags { KeepsBits buffer.old.input buffer.new.input }
 {
     if buffer.scratch_flags & HB_BUFFER_SCRATCH_FLAG_HAS_GPOS_ATTACHMENT != 0 {
         let direction = buffer.direction;

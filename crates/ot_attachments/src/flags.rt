@@ -1,7 +1,8 @@
 //! Glyph flags of a range of a buffer with no output open, whatever the range.
 
-ghost use Rattle.std.specs.Prelude.{◌≡◌, false, IsSome};
+ghost use Rattle.std.specs.Prelude.{◌≡◌, [], false, IsSome};
 ghost use Rattle.ot_attachments.specs.Flags.{KeepsBits, attachments_marked, break_marked, concat_marked, untouched};
+ghost use Rattle.shaping_buffer.specs.State.{len};
 
 use shaping_buffer::{HB_BUFFER_SCRATCH_FLAG_HAS_GPOS_ATTACHMENT, hb_buffer_t};
 
@@ -16,8 +17,7 @@ pub fn mark_break(buffer: &mut hb_buffer_t, from: usize, to: usize)
     ensures rest { untouched buffer.new ≡ untouched buffer.old }
     ensures flags { KeepsBits buffer.old.input buffer.new.input }
 {
-    prove!(buffer.out_len() == 0);
-    let len = buffer.len();
+    let len = closed_len(buffer);
     if from <= to && from <= len {
         buffer.unsafe_to_break(Some(from), Some(to));
     }
@@ -35,11 +35,21 @@ pub fn mark_concat(buffer: &mut hb_buffer_t, from: usize, to: usize)
     ensures rest { untouched buffer.new ≡ untouched buffer.old }
     ensures flags { KeepsBits buffer.old.input buffer.new.input }
 {
-    prove!(buffer.out_len() == 0);
-    let len = buffer.len();
+    let len = closed_len(buffer);
     if from < to && from <= len {
         buffer.unsafe_to_concat(Some(from), Some(to));
     }
+}
+
+/// How many glyphs there are, of which none is put out while no output is open.
+#[inline]
+fn closed_len(buffer: &hb_buffer_t) -> usize
+    requires { buffer.now.have_output ≡ false }
+    ensures len { result ≡ len buffer.now }
+    ensures none { buffer.now.out ≡ [] }
+{
+    prove!(buffer.out_len() == 0);
+    buffer.len()
 }
 
 /// Says that there are glyphs that are attached to others.

@@ -1,12 +1,13 @@
 //! Marks that are attached to a base, a ligature or another mark: the step that all three have in common (HarfBuzz, `MarkArray`).
 
-ghost use Rattle.std.specs.Prelude.{◌≡◌, false, IsSome};
-ghost use Rattle.ot_attachments.specs.Flags.{KeepsBits, untouched};
+ghost use Rattle.std.specs.Prelude.{◌≡◌};
+ghost use Rattle.ot_attachments.specs.Flags.{KeepsText};
 ghost use Rattle.ot_gpos_tables.specs.Anchors.{anchor};
 ghost use Rattle.ot_gpos.specs.Attachments as marks;
 ghost use Rattle.ot_gpos.specs.Attachments.{HasNoPixels};
 ghost use Rattle.ot_attachments.specs.Placing.{changed_at, mark_put};
 ghost use Rattle.ot_gpos.specs.Visit.{visit_of};
+ghost use Rattle.shaping_buffer.specs.State.{HasPositions};
 
 use crate::turn::Turn;
 use font_tables::bytes::{table_at_16, u16_at};
@@ -41,6 +42,15 @@ pub(crate) struct Attachment {
     y: i32,
 }
 
+/// A row of a matrix of anchors, which has a column for each class of marks.
+#[derive(Clone, Copy)]
+pub(crate) struct AnchorRow<'a> {
+    /// The matrix.
+    pub matrix: &'a [u8],
+    /// The number of the row.
+    pub number: u32,
+}
+
 /// The anchor of the glyph at a place in a table.
 #[tactic(auto, using(crate::proofs::AttachmentLemmas::named_point_none))]
 pub(crate) fn anchor_at<P: ContourPoints>(
@@ -65,19 +75,19 @@ pub(crate) fn anchor_at<P: ContourPoints>(
     }
 }
 
-/// The attachment of the mark to the glyph at a place, by the anchors of this row of a matrix.
+/// The attachment of the mark to the glyph at a place, by the anchors of this row.
 #[tactic(auto, unfolding(crate::specs::Attachments::attachment_by))]
 pub(crate) fn attachment_by<P: ContourPoints>(
     glyphs: &[hb_glyph_info_t],
     turn: &Turn,
-    matrix: &[u8],
-    row: u32,
+    row: &AnchorRow<'_>,
     base: usize,
     points: &P,
 ) -> AttachmentFound
-    ensures { HasNoPixels turn.now.instance.now → result ≡ marks.attachment_by (visit_of turn.now) matrix.now row base }
+    ensures { HasNoPixels turn.now.instance.now
+        → result ≡ marks.attachment_by (visit_of turn.now) row.now.matrix.now row.now.number base }
 {
-    match anchor_for(glyphs, turn, matrix, row, base, points) {
+    match anchor_for(glyphs, turn, row, base, points) {
         Some(anchor) => AttachmentFound::Attached(attachment_to(
             glyphs, turn, &anchor, base, points,
         )),
@@ -96,16 +106,16 @@ fn marks_of<'a>(turn: &Turn<'a>) -> &'a [u8]
 fn anchor_for<P: ContourPoints>(
     glyphs: &[hb_glyph_info_t],
     turn: &Turn,
-    matrix: &[u8],
-    row: u32,
+    row: &AnchorRow<'_>,
     base: usize,
     points: &P,
 ) -> Option<Anchor>
-    ensures { HasNoPixels turn.now.instance.now → result ≡ marks.anchor_for (visit_of turn.now) matrix.now row }
+    ensures { HasNoPixels turn.now.instance.now
+        → result ≡ marks.anchor_for (visit_of turn.now) row.now.matrix.now row.now.number }
 {
     let class_count = u16_at(turn.subtable.table, 6)?;
     let class = mark_class(marks_of(turn), turn.index);
-    let table = anchor_in(matrix, row, class, class_count)?;
+    let table = anchor_in(row.matrix, row.number, class, class_count)?;
     anchor_at(table, turn.instance, glyphs, base, points)
 }
 
@@ -149,14 +159,10 @@ pub(crate) fn attach_mark(
     place: usize,
     found: &AttachmentFound,
 ) -> Option<usize>
-    requires closed { buffer.old.have_output ≡ false }
-    requires placed { IsSome buffer.old.positions }
+    requires placed { HasPositions buffer.old }
     ensures next { result ≡ marks.mark_next place found.now }
     ensures is { buffer.new ≡ marks.mark_placed place found.now buffer.old }
-    ensures closed { buffer.new.have_output ≡ false }
-    ensures placed { IsSome buffer.new.positions }
-    ensures rest { untouched buffer.new ≡ untouched buffer.old }
-    ensures flags { KeepsBits buffer.old.input buffer.new.input }
+    ensures kept { KeepsText buffer.old buffer.new }
 {
     let end = place.saturating_add(1);
     match *found {

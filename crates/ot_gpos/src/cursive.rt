@@ -1,12 +1,13 @@
 //! Glyphs that are joined to those before them, exit to entry (HarfBuzz, `CursivePos`).
 
-ghost use Rattle.std.specs.Prelude.{◌≡◌, ◌<◌, false, length, option_copied, IsSome};
+ghost use Rattle.std.specs.Prelude.{◌≡◌, ◌<◌, length, option_copied};
 ghost use Rattle.ot_gpos.specs.Attachments.{HasNoPixels};
 ghost use Rattle.ot_attachments.specs.Chains.{chain_of, position_at};
 ghost use Rattle.ot_gpos.specs.Cursive as cursive;
 ghost use Rattle.ot_attachments.specs.Placing.{changed_at};
-ghost use Rattle.ot_attachments.specs.Flags.{KeepsBits, untouched};
+ghost use Rattle.ot_attachments.specs.Flags.{KeepsText};
 ghost use Rattle.ot_gpos.specs.Visit.{visit_of};
+ghost use Rattle.shaping_buffer.specs.State.{HasPositions};
 
 use crate::attachment::anchor_at;
 use crate::turn::Turn;
@@ -58,15 +59,11 @@ pub(crate) fn place_cursive<P: ContourPoints>(
     turn: &Turn,
     points: &P,
 ) -> Option<usize>
-    requires closed { buffer.old.have_output ≡ false }
-    requires placed { IsSome buffer.old.positions }
+    requires placed { HasPositions buffer.old }
     ensures next { HasNoPixels turn.now.instance.now → result ≡ cursive.cursive_next (visit_of turn.now) (cursive.join_of (visit_of turn.now) buffer.old.input) }
     ensures is { HasNoPixels turn.now.instance.now
         → buffer.new ≡ cursive.cursive_placed (visit_of turn.now) (cursive.join_of (visit_of turn.now) buffer.old.input) buffer.old }
-    ensures closed { buffer.new.have_output ≡ false }
-    ensures placed { IsSome buffer.new.positions }
-    ensures rest { untouched buffer.new ≡ untouched buffer.old }
-    ensures flags { KeepsBits buffer.old.input buffer.new.input }
+    ensures kept { KeepsText buffer.old buffer.new }
 {
     let found = join_of(buffer.info(), turn, points);
     join_found(buffer, turn, &found)
@@ -75,14 +72,10 @@ pub(crate) fn place_cursive<P: ContourPoints>(
 /// Joins the glyph as the subtable finds it, and says where the iterator goes on.
 #[tactic(auto, using(crate::proofs::CursiveLemmas::with_positions_joined, ot_attachments::proofs::FlagLemmas::untouched_with_positions), unfolding(crate::specs::Cursive::cursive_placed))]
 fn join_found(buffer: &mut hb_buffer_t, turn: &Turn, found: &JoinFound) -> Option<usize>
-    requires closed { buffer.old.have_output ≡ false }
-    requires placed { IsSome buffer.old.positions }
+    requires placed { HasPositions buffer.old }
     ensures next { result ≡ cursive.cursive_next (visit_of turn.now) found.now }
     ensures is { buffer.new ≡ cursive.cursive_placed (visit_of turn.now) found.now buffer.old }
-    ensures closed { buffer.new.have_output ≡ false }
-    ensures placed { IsSome buffer.new.positions }
-    ensures rest { untouched buffer.new ≡ untouched buffer.old }
-    ensures flags { KeepsBits buffer.old.input buffer.new.input }
+    ensures kept { KeepsText buffer.old buffer.new }
 {
     let end = turn.place.saturating_add(1);
     let direction = buffer.direction;
@@ -320,7 +313,7 @@ fn hang_on(
 {
     reverse_chain(positions, child, direction.is_horizontal(), parent);
     if child < positions.len() {
-        let chain = hang_at(positions, direction, child, parent, x, y);
+        let chain = hang_at(positions, child, parent, direction, x, y);
         part_at(positions, parent, chain, direction);
     }
 }
@@ -329,18 +322,18 @@ fn hang_on(
 #[tactic(auto, unfolding(ot_attachments::specs::Placing::changed_at))]
 fn hang_at(
     positions: &mut [GlyphPosition],
-    direction: Direction,
-    child: usize,
+    place: usize,
     parent: usize,
+    direction: Direction,
     x: i32,
     y: i32,
 ) -> i16
-    requires { child < length positions.old }
-    ensures is { positions.new ≡ changed_at (cursive.hung direction child parent x y) child positions.old }
-    ensures chain { result ≡ chain_of (position_at positions.new child) }
+    requires { place < length positions.old }
+    ensures is { positions.new ≡ changed_at (cursive.hung direction place parent x y) place positions.old }
+    ensures chain { result ≡ chain_of (position_at positions.new place) }
 {
-    hang(&mut positions[child], direction, child, parent, x, y);
-    positions[child].attach_chain()
+    hang(&mut positions[place], direction, place, parent, x, y);
+    positions[place].attach_chain()
 }
 
 /// Attaches a glyph to its parent.

@@ -6,7 +6,7 @@ ghost use Rattle.ot_layout.specs.Budget.{IsNotMore};
 ghost use Rattle.glyph_digests.specs.Covered.{covered_index};
 ghost use Rattle.ot_gpos.specs.Attachments.{HasNoPixels};
 ghost use Rattle.ot_gpos.specs.Contexts.{AreDone, IsContextDone, named, record_done, target};
-ghost use Rattle.ot_attachments.specs.Flags.{KeepsBits, untouched};
+ghost use Rattle.ot_attachments.specs.Flags.{KeepsBits, KeepsText, untouched};
 ghost use Rattle.ot_gpos.specs.Lookups.{applied, is_simple, outcome, text_of};
 ghost use Rattle.ot_gpos.specs.Nested as others;
 ghost use Rattle.ot_gpos.specs.Nested.{IsOneTried, IsTried, IsVisited};
@@ -17,6 +17,7 @@ ghost use Rattle.ot_lookups.specs.Lookup.{is_for};
 ghost use Rattle.ot_lookups.specs.LookupProps.{glyph_at};
 ghost use Rattle.ot_lookups.specs.NextAsked.{IsNextOf};
 ghost use Rattle.shaping_buffer.specs.KeepsClusters.{KeepsClusters};
+ghost use Rattle.shaping_buffer.specs.State.{HasPositions};
 
 use crate::attachment::attach_mark;
 use crate::contexts::fit_at;
@@ -57,7 +58,7 @@ struct Task<'a, P> {
 
 /// Positions the glyphs by the lookup of this index, where the buffer's glyphs have one of the options' bits. A budget that is spent
 /// ends the iterator, and `buffer.shaping_failed` says so.
-#[tactic(auto, using(ot_attachments::proofs::FlagLemmas::keeps_by))]
+#[tactic(auto, using(ot_attachments::proofs::FlagLemmas::keeps_untouched))]
 pub fn position<P: ContourPoints>(
     buffer: &mut hb_buffer_t,
     setting: &Setting<P>,
@@ -79,10 +80,8 @@ pub fn position<P: ContourPoints>(
         search.old.budget.nested buffer.old search.new.budget.nested buffer.new }
     ensures keeps { KeepsClusters buffer.old buffer.new }
 {
-    prove!(buffer.out_len() == 0);
     place_all(buffer, setting, lookup, options, search);
     fail_if_spent(buffer, search);
-    prove!(buffer.out_len() == 0);
 }
 
 /// Positions the glyphs by the lookup of this index, one after the other.
@@ -93,12 +92,8 @@ fn place_all<'a, P: ContourPoints>(
     options: &'a LookupOptions,
     search: &mut Search,
 )
-    requires closed { buffer.old.have_output ≡ false }
-    requires placed { IsSome buffer.old.positions }
-    ensures closed { buffer.new.have_output ≡ false }
-    ensures placed { IsSome buffer.new.positions }
-    ensures rest { untouched buffer.new ≡ untouched buffer.old }
-    ensures flags { KeepsBits buffer.old.input buffer.new.input }
+    requires placed { HasPositions buffer.old }
+    ensures kept { KeepsText buffer.old buffer.new }
     ensures spent { IsNotMore search.old.budget search.new.budget }
     ensures exact { let list = setting.now.list.now in
         HasNoPixels setting.now.instance → 0 < search.new.budget.steps
@@ -147,16 +142,11 @@ fn place_by_lookup<'a, P: ContourPoints>(
     search: &mut Search,
     last: &mut LastBase,
 ) -> Option<usize>
-    requires closed { buffer.old.have_output ≡ false }
-    requires placed { IsSome buffer.old.positions }
-    ensures closed { buffer.new.have_output ≡ false }
-    ensures placed { IsSome buffer.new.positions }
-    ensures rest { untouched buffer.new ≡ untouched buffer.old }
-    ensures flags { KeepsBits buffer.old.input buffer.new.input }
+    requires placed { HasPositions buffer.old }
+    ensures kept { KeepsText buffer.old buffer.new }
     ensures spent { IsNotMore search.old.budget search.new.budget }
-    ensures exact { let setting = task.now.setting.now in
-        let a = applied setting.list.now task.now.lookup.now task.now.options.now setting.instance in
-        HasNoPixels setting.instance → 0 < search.new.budget.steps
+    ensures exact { let a = applied task.now.setting.now.list.now task.now.lookup.now task.now.options.now task.now.setting.now.instance in
+        HasNoPixels a.instance → 0 < search.new.budget.steps
         → IsTried task.now.depth a task.now.place (text_of buffer.old last.old search.old.budget.nested)
         (outcome (text_of buffer.new last.new search.new.budget.nested) result) }
 {
@@ -185,18 +175,13 @@ fn try_subtable<'a, P: ContourPoints>(
     search: &mut Search,
     last: &mut LastBase,
 ) -> Option<usize>
-    requires closed { buffer.old.have_output ≡ false }
-    requires placed { IsSome buffer.old.positions }
+    requires placed { HasPositions buffer.old }
     requires within { task.now.place < length buffer.old.input }
     requires next { IsNextOf task.now.setting.now.list.now.coverages.items subtable.now }
-    ensures closed { buffer.new.have_output ≡ false }
-    ensures placed { IsSome buffer.new.positions }
-    ensures rest { untouched buffer.new ≡ untouched buffer.old }
-    ensures flags { KeepsBits buffer.old.input buffer.new.input }
+    ensures kept { KeepsText buffer.old buffer.new }
     ensures spent { IsNotMore search.old.budget search.new.budget }
-    ensures exact { let setting = task.now.setting.now in
-        let a = applied setting.list.now task.now.lookup.now task.now.options.now setting.instance in
-        HasNoPixels setting.instance → 0 < search.new.budget.steps
+    ensures exact { let a = applied task.now.setting.now.list.now task.now.lookup.now task.now.options.now task.now.setting.now.instance in
+        HasNoPixels a.instance → 0 < search.new.budget.steps
         → IsOneTried (others.nested task.now.depth a) a task.now.place glyph subtable.now
         (text_of buffer.old last.old search.old.budget.nested)
         (outcome (text_of buffer.new last.new search.new.budget.nested) result) }
@@ -237,19 +222,14 @@ fn place_by_subtable<'a, P: ContourPoints>(
     search: &mut Search,
     last: &mut LastBase,
 ) -> Option<usize>
-    requires closed { buffer.old.have_output ≡ false }
-    requires placed { IsSome buffer.old.positions }
+    requires placed { HasPositions buffer.old }
     requires within { turn.now.place < length buffer.old.input }
     requires place { turn.now.place ≡ task.now.place }
     requires next { IsNextOf task.now.setting.now.list.now.coverages.items turn.now.subtable.now }
-    ensures closed { buffer.new.have_output ≡ false }
-    ensures placed { IsSome buffer.new.positions }
-    ensures rest { untouched buffer.new ≡ untouched buffer.old }
-    ensures flags { KeepsBits buffer.old.input buffer.new.input }
+    ensures kept { KeepsText buffer.old buffer.new }
     ensures spent { IsNotMore search.old.budget search.new.budget }
-    ensures exact { let setting = task.now.setting.now in
-        let a = applied setting.list.now task.now.lookup.now task.now.options.now setting.instance in
-        HasNoPixels setting.instance → HasNoPixels turn.now.instance.now → 0 < search.new.budget.steps
+    ensures exact { let a = applied task.now.setting.now.list.now task.now.lookup.now task.now.options.now task.now.setting.now.instance in
+        HasNoPixels a.instance → HasNoPixels turn.now.instance.now → 0 < search.new.budget.steps
         → IsVisited (others.nested task.now.depth a) a (visit_of turn.now) (text_of buffer.old last.old search.old.budget.nested)
         (outcome (text_of buffer.new last.new search.new.budget.nested) result) }
 {
@@ -267,15 +247,11 @@ fn place_by_simple<P: ContourPoints>(
     last: &mut LastBase,
     points: &P,
 ) -> Option<usize>
-    requires closed { buffer.old.have_output ≡ false }
-    requires placed { IsSome buffer.old.positions }
+    requires placed { HasPositions buffer.old }
     ensures last { last.new ≡ bases_at kind (visit_of turn.now) buffer.old.input last.old }
     ensures next { HasNoPixels turn.now.instance.now → result ≡ simple_next kind (visit_of turn.now) last.old buffer.old }
     ensures is { HasNoPixels turn.now.instance.now → buffer.new ≡ simple_at kind (visit_of turn.now) last.old buffer.old }
-    ensures closed { buffer.new.have_output ≡ false }
-    ensures placed { IsSome buffer.new.positions }
-    ensures rest { untouched buffer.new ≡ untouched buffer.old }
-    ensures flags { KeepsBits buffer.old.input buffer.new.input }
+    ensures kept { KeepsText buffer.old buffer.new }
 {
     match kind {
         1 => place_single(buffer, turn),
@@ -293,37 +269,32 @@ fn place_by_simple<P: ContourPoints>(
 fn place_by_context<'a, P: ContourPoints>(
     buffer: &mut hb_buffer_t,
     task: &Task<'a, P>,
-    turn: &Turn<'a>,
+    context: &Turn<'a>,
     search: &mut Search,
     last: &mut LastBase,
 ) -> Option<usize>
-    requires closed { buffer.old.have_output ≡ false }
-    requires placed { IsSome buffer.old.positions }
-    requires within { turn.now.place < length buffer.old.input }
-    requires place { turn.now.place ≡ task.now.place }
-    requires next { IsNextOf task.now.setting.now.list.now.coverages.items turn.now.subtable.now }
-    requires is_context { is_simple turn.now.subtable.now ≡ false }
-    ensures closed { buffer.new.have_output ≡ false }
-    ensures placed { IsSome buffer.new.positions }
-    ensures rest { untouched buffer.new ≡ untouched buffer.old }
-    ensures flags { KeepsBits buffer.old.input buffer.new.input }
+    requires placed { HasPositions buffer.old }
+    requires within { context.now.place < length buffer.old.input }
+    requires place { context.now.place ≡ task.now.place }
+    requires next { IsNextOf task.now.setting.now.list.now.coverages.items context.now.subtable.now }
+    requires is_context { is_simple context.now.subtable.now ≡ false }
+    ensures kept { KeepsText buffer.old buffer.new }
     ensures spent { IsNotMore search.old.budget search.new.budget }
-    ensures exact { let setting = task.now.setting.now in
-        let a = applied setting.list.now task.now.lookup.now task.now.options.now setting.instance in
-        HasNoPixels setting.instance → 0 < search.new.budget.steps
-        → IsContextDone (others.nested task.now.depth a) a (visit_of turn.now) (text_of buffer.old last.old search.old.budget.nested)
+    ensures exact { let a = applied task.now.setting.now.list.now task.now.lookup.now task.now.options.now task.now.setting.now.instance in
+        HasNoPixels a.instance → 0 < search.new.budget.steps
+        → IsContextDone (others.nested task.now.depth a) a (visit_of context.now) (text_of buffer.old last.old search.old.budget.nested)
         (outcome (text_of buffer.new last.new search.new.budget.nested) result) }
 {
-    let context = SkippingIterator::over_context(task.lookup.lookup_props, task.options, true);
-    let fit = fit_at(buffer.info(), task.setting.list, turn, &context, search);
-    let reached = turn.place.saturating_add(search.reach.to);
+    let around = SkippingIterator::over_context(task.lookup.lookup_props, task.options, true);
+    let fit = fit_at(buffer.info(), task.setting.list, context, &around, search);
+    let reached = context.place.saturating_add(search.reach.to);
     mark_concat(buffer, search.reach.from, reached);
     let fit = fit?;
-    mark_break(buffer, fit.from, turn.place.saturating_add(fit.to));
+    mark_break(buffer, fit.from, context.place.saturating_add(fit.to));
     let places = mem::replace(&mut search.places, MatchPositions::new());
     apply_records(buffer, task, &fit, &places, search, last);
-    let end = turn.place.saturating_add(fit.end);
-    mark_concat(buffer, end, turn.place.saturating_add(fit.beyond));
+    let end = context.place.saturating_add(fit.end);
+    mark_concat(buffer, end, context.place.saturating_add(fit.beyond));
     Some(end)
 }
 
@@ -337,16 +308,11 @@ fn apply_records<'a, P: ContourPoints>(
     search: &mut Search,
     last: &mut LastBase,
 )
-    requires closed { buffer.old.have_output ≡ false }
-    requires placed { IsSome buffer.old.positions }
-    ensures closed { buffer.new.have_output ≡ false }
-    ensures placed { IsSome buffer.new.positions }
-    ensures rest { untouched buffer.new ≡ untouched buffer.old }
-    ensures flags { KeepsBits buffer.old.input buffer.new.input }
+    requires placed { HasPositions buffer.old }
+    ensures kept { KeepsText buffer.old buffer.new }
     ensures spent { IsNotMore search.old.budget search.new.budget }
-    ensures exact { let setting = task.now.setting.now in
-        let a = applied setting.list.now task.now.lookup.now task.now.options.now setting.instance in
-        HasNoPixels setting.instance → 0 < search.new.budget.steps
+    ensures exact { let a = applied task.now.setting.now.list.now task.now.lookup.now task.now.options.now task.now.setting.now.instance in
+        HasNoPixels a.instance → 0 < search.new.budget.steps
         → AreDone (record_done (others.nested task.now.depth a) a.list.lookups.items fit.now.records.now task.now.place places.now.items)
         fit.now.record_count (text_of buffer.old last.old search.old.budget.nested)
         (text_of buffer.new last.new search.new.budget.nested) }
@@ -394,12 +360,8 @@ fn nested_task<'a, P>(
 
 /// Says that shaping was given up where the budget is spent.
 fn fail_if_spent(buffer: &mut hb_buffer_t, search: &Search)
-    requires closed { buffer.old.have_output ≡ false }
-    requires placed { IsSome buffer.old.positions }
-    ensures closed { buffer.new.have_output ≡ false }
-    ensures placed { IsSome buffer.new.positions }
-    ensures rest { untouched buffer.new ≡ untouched buffer.old }
-    ensures flags { KeepsBits buffer.old.input buffer.new.input }
+    requires placed { HasPositions buffer.old }
+    ensures kept { KeepsText buffer.old buffer.new }
     ensures says { search.now.budget.steps ≡ 0 → buffer.new.shaping_failed ≡ true }
     ensures same { 0 < search.now.budget.steps → buffer.new ≡ buffer.old }
 {
@@ -411,12 +373,8 @@ fn fail_if_spent(buffer: &mut hb_buffer_t, search: &Search)
 /// Says that the text could not be shaped as the font asks.
 #[tactic(auto, unfolding(ot_attachments::specs::Flags::untouched))]
 fn fail(buffer: &mut hb_buffer_t)
-    requires closed { buffer.old.have_output ≡ false }
-    requires placed { IsSome buffer.old.positions }
-    ensures closed { buffer.new.have_output ≡ false }
-    ensures placed { IsSome buffer.new.positions }
-    ensures rest { untouched buffer.new ≡ untouched buffer.old }
-    ensures flags { KeepsBits buffer.old.input buffer.new.input }
+    requires placed { HasPositions buffer.old }
+    ensures kept { KeepsText buffer.old buffer.new }
     ensures is { buffer.new ≡ record buffer.old { shaping_failed = true } }
     ensures says { buffer.new.shaping_failed ≡ true }
 {

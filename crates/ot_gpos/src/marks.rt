@@ -8,7 +8,7 @@ ghost use Rattle.ot_gpos.specs.Bases.{counts, counts_at};
 ghost use Rattle.ot_gpos.specs.Subtables.{attachment_at, bases_at};
 ghost use Rattle.ot_gpos.specs.Visit.{visit_of};
 
-use crate::attachment::{AttachmentFound, attachment_by};
+use crate::attachment::{AnchorRow, AttachmentFound, attachment_by};
 use crate::ligatures::{are_of_one_part, is_first_of_many, ligature_row};
 use crate::turn::Turn;
 use font_tables::bytes::table_at_16;
@@ -78,8 +78,27 @@ fn base_of<P: ContourPoints>(
     ensures is { HasNoPixels turn.now.instance.now → result ≡ marks.base_of (visit_of turn.now) glyphs.now last.new }
 {
     find_base(glyphs, turn, last, true);
-    match base_index(glyphs, turn, last.base) {
-        Ok((base, row)) => attachment_by(glyphs, turn, bases_of(turn), row, base, points),
+    attached_at(glyphs, turn, last.base, points)
+}
+
+/// The attachment to the base or the mark at a place, if there is one and the subtable has it.
+fn attached_at<P: ContourPoints>(
+    glyphs: &[hb_glyph_info_t],
+    turn: &Turn,
+    base: Option<usize>,
+    points: &P,
+) -> AttachmentFound
+    ensures { HasNoPixels turn.now.instance.now → result ≡ marks.attached_at (visit_of turn.now) glyphs.now
+        (λ place row. marks.attachment_by (visit_of turn.now) (marks.bases_of (visit_of turn.now)) row place) base }
+{
+    match base_index(glyphs, turn, base) {
+        Ok((base, number)) => {
+            let row = AnchorRow {
+                matrix: bases_of(turn),
+                number,
+            };
+            attachment_by(glyphs, turn, &row, base, points)
+        }
         Err(from) => AttachmentFound::NoBase(from),
     }
 }
@@ -107,7 +126,10 @@ fn ligature_of<P: ContourPoints>(
         Ok((base, index)) => {
             let matrix = ligature_matrix(bases_of(turn), index).unwrap_or(&[]);
             match row_of(glyphs, matrix, base, turn.place) {
-                Some(row) => attachment_by(glyphs, turn, matrix, row, base, points),
+                Some(number) => {
+                    let row = AnchorRow { matrix, number };
+                    attachment_by(glyphs, turn, &row, base, points)
+                }
                 None => AttachmentFound::NoBase(base),
             }
         }
@@ -135,10 +157,7 @@ fn mark_of<P: ContourPoints>(glyphs: &[hb_glyph_info_t], turn: &Turn, points: &P
 {
     match mark_before(glyphs, turn) {
         Found::At(before) if is_fellow(glyphs, before, turn.place) => {
-            match base_index(glyphs, turn, Some(before)) {
-                Ok((base, row)) => attachment_by(glyphs, turn, bases_of(turn), row, base, points),
-                Err(from) => AttachmentFound::NoBase(from),
-            }
+            attached_at(glyphs, turn, Some(before), points)
         }
         Found::At(before) => AttachmentFound::NoBase(before),
         Found::Other(before) => AttachmentFound::NoBase(before.saturating_sub(1)),

@@ -1,6 +1,6 @@
 //! Single glyphs and pairs that are moved (HarfBuzz, `SinglePos`, `PairPos`).
 
-ghost use Rattle.std.specs.Prelude.{◌≡◌, ◌<◌, Some, None, true, false, length, option_map, if◌then◌else◌, IsSome};
+ghost use Rattle.std.specs.Prelude.{◌≡◌, ◌<◌, Some, None, true, length, option_map, if◌then◌else◌};
 ghost use Rattle.std.specs.Option.{option_map_or};
 ghost use Rattle.rb_common.specs.Direction.{is_horizontal};
 ghost use Rattle.ot_layout.specs.SkippingIterator.{IsBehind, next_found};
@@ -10,11 +10,12 @@ ghost use Rattle.ot_layout.specs.declared.skipping_iterator.Found.TheVariants.{A
 ghost use Rattle.ot_gpos_tables.specs.Pairs.{is_kerning, kerned};
 ghost use Rattle.ot_gpos_tables.specs.Values.{moved};
 ghost use Rattle.ot_gpos.specs.Adjustments as adjustments;
-ghost use Rattle.ot_attachments.specs.Flags.{KeepsBits, concat_marked, untouched};
+ghost use Rattle.ot_attachments.specs.Flags.{KeepsText, concat_marked};
 ghost use Rattle.ot_gpos.specs.PairAdjustments as pairs;
 ghost use Rattle.ot_attachments.specs.Places.{behind};
 ghost use Rattle.ot_attachments.specs.Placing.{changed_at};
 ghost use Rattle.ot_gpos.specs.Visit.{visit_of};
+ghost use Rattle.shaping_buffer.specs.State.{HasPositions};
 
 use crate::turn::Turn;
 use ot_attachments::flags::{mark_break, mark_concat};
@@ -29,17 +30,24 @@ use ot_layout::skipping_iterator::{Found, SkippingIterator};
 use rb_glyph::{GlyphPosition, hb_glyph_info_t};
 use shaping_buffer::hb_buffer_t;
 
+/// A pair that a subtable has records for.
+#[derive(Clone, Copy)]
+struct AdjustedPair {
+    /// The place of its second glyph.
+    second: usize,
+    /// Its records.
+    values: PairValues,
+    /// Whether pairs have records for their second glyphs.
+    uses_second: bool,
+}
+
 /// Moves the glyph, and says where the iterator goes on; `None` where the subtable is not for it.
 #[tactic(auto, using(ot_attachments::proofs::PositionsLemmas::with_positions_changed, ot_attachments::proofs::FlagLemmas::untouched_with_positions))]
 pub(crate) fn place_single(buffer: &mut hb_buffer_t, turn: &Turn) -> Option<usize>
-    requires closed { buffer.old.have_output ≡ false }
-    requires placed { IsSome buffer.old.positions }
+    requires placed { HasPositions buffer.old }
     ensures next { result ≡ adjustments.single_next (visit_of turn.now) }
     ensures is { buffer.new ≡ adjustments.single (visit_of turn.now) buffer.old }
-    ensures closed { buffer.new.have_output ≡ false }
-    ensures placed { IsSome buffer.new.positions }
-    ensures rest { untouched buffer.new ≡ untouched buffer.old }
-    ensures flags { KeepsBits buffer.old.input buffer.new.input }
+    ensures kept { KeepsText buffer.old buffer.new }
 {
     let values = single_values(turn.subtable.table, turn.index)?;
     let is_horizontal = buffer.direction.is_horizontal();
@@ -75,14 +83,10 @@ fn move_at(
 
 /// Moves the glyph and the next one, and says where the iterator goes on; `None` where the subtable has no such pair.
 pub(crate) fn place_pair(buffer: &mut hb_buffer_t, turn: &Turn) -> Option<usize>
-    requires closed { buffer.old.have_output ≡ false }
-    requires placed { IsSome buffer.old.positions }
+    requires placed { HasPositions buffer.old }
     ensures next { result ≡ pairs.pair_next (visit_of turn.now) buffer.old }
     ensures is { buffer.new ≡ pairs.pair (visit_of turn.now) buffer.old }
-    ensures closed { buffer.new.have_output ≡ false }
-    ensures placed { IsSome buffer.new.positions }
-    ensures rest { untouched buffer.new ≡ untouched buffer.old }
-    ensures flags { KeepsBits buffer.old.input buffer.new.input }
+    ensures kept { KeepsText buffer.old buffer.new }
 {
     let len = buffer.len();
     if turn.place >= len {
@@ -103,22 +107,18 @@ pub(crate) fn place_pair(buffer: &mut hb_buffer_t, turn: &Turn) -> Option<usize>
 
 /// Moves the glyph and the one at a place after it.
 fn place_with(buffer: &mut hb_buffer_t, turn: &Turn, second: usize) -> Option<usize>
-    requires closed { buffer.old.have_output ≡ false }
-    requires placed { IsSome buffer.old.positions }
+    requires placed { HasPositions buffer.old }
     requires first { turn.now.place < length buffer.old.input }
     requires second { second < length buffer.old.input }
     ensures next { result ≡ pairs.next_with (visit_of turn.now) (At second) buffer.old }
     ensures is { buffer.new ≡ pairs.pair_with (visit_of turn.now) (At second) buffer.old }
-    ensures closed { buffer.new.have_output ≡ false }
-    ensures placed { IsSome buffer.new.positions }
-    ensures rest { untouched buffer.new ≡ untouched buffer.old }
-    ensures flags { KeepsBits buffer.old.input buffer.new.input }
+    ensures kept { KeepsText buffer.old buffer.new }
 {
     let glyphs = glyphs_at(buffer.info(), turn.place, second);
     if buffer.direction.is_horizontal() && is_kerning(turn.subtable.table) {
-        kern_with(buffer, turn, second, glyphs)
+        kern(buffer, turn, second, glyphs)
     } else {
-        move_with(buffer, turn, second, glyphs)
+        adjust(buffer, turn, second, glyphs)
     }
 }
 
@@ -135,23 +135,14 @@ fn glyphs_at(glyphs: &[hb_glyph_info_t], first: usize, second: usize) -> (u32, u
 
 /// Kerns the glyph with the one at a place, where the pair is of these glyphs.
 #[inline]
-fn kern_with(
-    buffer: &mut hb_buffer_t,
-    turn: &Turn,
-    second: usize,
-    glyphs: (u32, u32),
-) -> Option<usize>
-    requires closed { buffer.old.have_output ≡ false }
-    requires placed { IsSome buffer.old.positions }
+fn kern(buffer: &mut hb_buffer_t, turn: &Turn, second: usize, glyphs: (u32, u32)) -> Option<usize>
+    requires placed { HasPositions buffer.old }
     requires horizontal { is_horizontal buffer.old.direction ≡ true }
     requires kerns { is_kerning (pairs.table_of (visit_of turn.now)) ≡ true }
     ensures next { result ≡ option_map_or (λ v. Some second) (pairs.pair_records (visit_of turn.now) glyphs.0 glyphs.1) None }
     ensures is { buffer.new ≡ option_map_or (λ v. pairs.adjusted (visit_of turn.now) second v buffer.old)
         (pairs.pair_records (visit_of turn.now) glyphs.0 glyphs.1) (concat_marked turn.now.place (behind second) buffer.old) }
-    ensures closed { buffer.new.have_output ≡ false }
-    ensures placed { IsSome buffer.new.positions }
-    ensures rest { untouched buffer.new ≡ untouched buffer.old }
-    ensures flags { KeepsBits buffer.old.input buffer.new.input }
+    ensures kept { KeepsText buffer.old buffer.new }
 {
     match advance_of(turn, glyphs) {
         Some(advance) => {
@@ -197,15 +188,11 @@ fn advance_of(turn: &Turn, glyphs: (u32, u32)) -> Option<i16>
 #[inline]
 #[tactic(auto, using(crate::proofs::PairLemmas::adjusted_kerned, crate::proofs::PairLemmas::with_positions_paired, ot_attachments::proofs::FlagLemmas::untouched_with_positions))]
 fn kern_pair(buffer: &mut hb_buffer_t, turn: &Turn, second: usize, advance: i16)
-    requires closed { buffer.old.have_output ≡ false }
-    requires placed { IsSome buffer.old.positions }
+    requires placed { HasPositions buffer.old }
     requires horizontal { is_horizontal buffer.old.direction ≡ true }
     requires kerns { is_kerning (pairs.table_of (visit_of turn.now)) ≡ true }
     ensures is { buffer.new ≡ pairs.adjusted (visit_of turn.now) second (kerned advance) buffer.old }
-    ensures closed { buffer.new.have_output ≡ false }
-    ensures placed { IsSome buffer.new.positions }
-    ensures rest { untouched buffer.new ≡ untouched buffer.old }
-    ensures flags { KeepsBits buffer.old.input buffer.new.input }
+    ensures kept { KeepsText buffer.old buffer.new }
 {
     let end = second.saturating_add(1);
     if advance != 0 {
@@ -220,13 +207,9 @@ fn kern_pair(buffer: &mut hb_buffer_t, turn: &Turn, second: usize, advance: i16)
 /// if the line began there.
 #[tactic(auto, unfolding(crate::specs::PairAdjustments::unmoved))]
 fn mark_unmoved(buffer: &mut hb_buffer_t, turn: &Turn, end: usize)
-    requires closed { buffer.old.have_output ≡ false }
-    requires placed { IsSome buffer.old.positions }
+    requires placed { HasPositions buffer.old }
     ensures is { buffer.new ≡ pairs.unmoved (visit_of turn.now) end buffer.old }
-    ensures closed { buffer.new.have_output ≡ false }
-    ensures placed { IsSome buffer.new.positions }
-    ensures rest { untouched buffer.new ≡ untouched buffer.old }
-    ensures flags { KeepsBits buffer.old.input buffer.new.input }
+    ensures kept { KeepsText buffer.old buffer.new }
 {
     mark_passed(buffer, turn, end);
     mark_concat(buffer, turn.place, end);
@@ -234,13 +217,9 @@ fn mark_unmoved(buffer: &mut hb_buffer_t, turn: &Turn, end: usize)
 
 /// Marks what a pair passes over that is not moved, where one of these glyphs might be.
 fn mark_passed(buffer: &mut hb_buffer_t, turn: &Turn, end: usize)
-    requires closed { buffer.old.have_output ≡ false }
-    requires placed { IsSome buffer.old.positions }
+    requires placed { HasPositions buffer.old }
     ensures is { buffer.new ≡ pairs.parted (visit_of turn.now) end buffer.old }
-    ensures closed { buffer.new.have_output ≡ false }
-    ensures placed { IsSome buffer.new.positions }
-    ensures rest { untouched buffer.new ≡ untouched buffer.old }
-    ensures flags { KeepsBits buffer.old.input buffer.new.input }
+    ensures kept { KeepsText buffer.old buffer.new }
 {
     if passes_over_first(buffer.info(), turn, end) {
         mark_break(buffer, turn.place, end.saturating_sub(1));
@@ -294,28 +273,24 @@ fn next_shown(iterator: &SkippingIterator, glyphs: &[hb_glyph_info_t], place: us
 
 /// Moves the glyph and the one at a place, where the pair is of these glyphs.
 #[inline]
-fn move_with(
-    buffer: &mut hb_buffer_t,
-    turn: &Turn,
-    second: usize,
-    glyphs: (u32, u32),
-) -> Option<usize>
-    requires closed { buffer.old.have_output ≡ false }
-    requires placed { IsSome buffer.old.positions }
+fn adjust(buffer: &mut hb_buffer_t, turn: &Turn, second: usize, glyphs: (u32, u32)) -> Option<usize>
+    requires placed { HasPositions buffer.old }
     ensures next { result ≡ option_map_or (λ v. Some (if pairs.uses_second (visit_of turn.now) then behind second else second))
         (pairs.pair_records (visit_of turn.now) glyphs.0 glyphs.1) None }
     ensures is { buffer.new ≡ option_map_or (λ v. pairs.adjusted (visit_of turn.now) second v buffer.old)
         (pairs.pair_records (visit_of turn.now) glyphs.0 glyphs.1) (concat_marked turn.now.place (behind second) buffer.old) }
-    ensures closed { buffer.new.have_output ≡ false }
-    ensures placed { IsSome buffer.new.positions }
-    ensures rest { untouched buffer.new ≡ untouched buffer.old }
-    ensures flags { KeepsBits buffer.old.input buffer.new.input }
+    ensures kept { KeepsText buffer.old buffer.new }
 {
     let end = second.saturating_add(1);
     match values_of(turn, glyphs) {
         Some(values) => {
             let uses_second = pair_formats(turn.subtable.table).1 != 0;
-            move_pair(buffer, turn, second, &values, uses_second);
+            let pair = AdjustedPair {
+                second,
+                values,
+                uses_second,
+            };
+            move_pair(buffer, turn, &pair);
             Some(if uses_second { end } else { second })
         }
         None => {
@@ -355,54 +330,34 @@ fn values_of(turn: &Turn, glyphs: (u32, u32)) -> Option<PairValues>
 
 /// Moves the glyphs of a pair, and marks what may not be parted any more.
 #[tactic(auto, unfolding(crate::specs::PairAdjustments::adjusted))]
-fn move_pair(
-    buffer: &mut hb_buffer_t,
-    turn: &Turn,
-    second: usize,
-    values: &PairValues,
-    uses_second: bool,
-)
-    requires closed { buffer.old.have_output ≡ false }
-    requires placed { IsSome buffer.old.positions }
-    requires uses { uses_second ≡ pairs.uses_second (visit_of turn.now) }
-    ensures is { buffer.new ≡ pairs.adjusted (visit_of turn.now) second values.now buffer.old }
-    ensures closed { buffer.new.have_output ≡ false }
-    ensures placed { IsSome buffer.new.positions }
-    ensures rest { untouched buffer.new ≡ untouched buffer.old }
-    ensures flags { KeepsBits buffer.old.input buffer.new.input }
+fn move_pair(buffer: &mut hb_buffer_t, turn: &Turn, pair: &AdjustedPair)
+    requires placed { HasPositions buffer.old }
+    requires uses { pair.now.uses_second ≡ pairs.uses_second (visit_of turn.now) }
+    ensures is { buffer.new ≡ pairs.adjusted (visit_of turn.now) pair.now.second pair.now.values buffer.old }
+    ensures kept { KeepsText buffer.old buffer.new }
 {
-    move_or_not(buffer, turn, second, values, uses_second);
-    if uses_second {
+    move_or_not(buffer, turn, pair);
+    if pair.uses_second {
         mark_break(
             buffer,
             turn.place,
-            second.saturating_add(1).saturating_add(1),
+            pair.second.saturating_add(1).saturating_add(1),
         );
     }
 }
 
 /// Moves the glyphs of a pair, where its records may move them.
 #[tactic(auto, using(crate::proofs::PairLemmas::with_positions_paired, ot_attachments::proofs::FlagLemmas::untouched_with_positions))]
-fn move_or_not(
-    buffer: &mut hb_buffer_t,
-    turn: &Turn,
-    second: usize,
-    values: &PairValues,
-    uses_second: bool,
-)
-    requires closed { buffer.old.have_output ≡ false }
-    requires placed { IsSome buffer.old.positions }
-    requires uses { uses_second ≡ pairs.uses_second (visit_of turn.now) }
-    ensures is { buffer.new ≡ pairs.moved_or_not (visit_of turn.now) second values.now buffer.old }
-    ensures closed { buffer.new.have_output ≡ false }
-    ensures placed { IsSome buffer.new.positions }
-    ensures rest { untouched buffer.new ≡ untouched buffer.old }
-    ensures flags { KeepsBits buffer.old.input buffer.new.input }
+fn move_or_not(buffer: &mut hb_buffer_t, turn: &Turn, pair: &AdjustedPair)
+    requires placed { HasPositions buffer.old }
+    requires uses { pair.now.uses_second ≡ pairs.uses_second (visit_of turn.now) }
+    ensures is { buffer.new ≡ pairs.moved_or_not (visit_of turn.now) pair.now.second pair.now.values buffer.old }
+    ensures kept { KeepsText buffer.old buffer.new }
 {
-    let end = second.saturating_add(1);
+    let end = pair.second.saturating_add(1);
     let is_horizontal = buffer.direction.is_horizontal();
-    if has_effect(turn, values, uses_second, is_horizontal) {
-        move_both(buffer.pos_mut(), turn, second, values, is_horizontal);
+    if has_effect(turn, pair, is_horizontal) {
+        move_both(buffer.pos_mut(), turn, pair, is_horizontal);
         mark_break(buffer, turn.place, end);
     } else {
         mark_unmoved(buffer, turn, end);
@@ -410,12 +365,12 @@ fn move_or_not(
 }
 
 /// Whether records may move a pair.
-fn has_effect(turn: &Turn, values: &PairValues, uses_second: bool, is_horizontal: bool) -> bool
-    requires uses { uses_second ≡ pairs.uses_second (visit_of turn.now) }
-    ensures { result ≡ pairs.pair_has_effect (visit_of turn.now) is_horizontal values.now }
+fn has_effect(turn: &Turn, pair: &AdjustedPair, is_horizontal: bool) -> bool
+    requires uses { pair.now.uses_second ≡ pairs.uses_second (visit_of turn.now) }
+    ensures { result ≡ pairs.pair_has_effect (visit_of turn.now) is_horizontal pair.now.values }
 {
-    values.first.has_effect(turn.instance, is_horizontal)
-        || uses_second && values.second.has_effect(turn.instance, is_horizontal)
+    pair.values.first.has_effect(turn.instance, is_horizontal)
+        || pair.uses_second && pair.values.second.has_effect(turn.instance, is_horizontal)
 }
 
 /// From where the offsets of device tables are counted.
@@ -431,20 +386,15 @@ fn base_of<'a>(turn: &Turn<'a>) -> &'a [u8]
 
 /// Moves the glyphs of a pair.
 #[tactic(auto, unfolding(crate::specs::PairAdjustments::pair_moved))]
-fn move_both(
-    positions: &mut [GlyphPosition],
-    turn: &Turn,
-    second: usize,
-    values: &PairValues,
-    is_horizontal: bool,
-)
-    ensures { positions.new ≡ pairs.pair_moved (visit_of turn.now) is_horizontal values.now second positions.old }
+fn move_both(positions: &mut [GlyphPosition], turn: &Turn, pair: &AdjustedPair, is_horizontal: bool)
+    ensures { positions.new
+        ≡ pairs.pair_moved (visit_of turn.now) is_horizontal pair.now.values pair.now.second positions.old }
 {
     let base = base_of(turn);
     move_at(
         positions,
         turn.place,
-        &values.first,
+        &pair.values.first,
         base,
         turn.instance,
         is_horizontal,
@@ -452,8 +402,8 @@ fn move_both(
     if pair_formats(turn.subtable.table).1 != 0 {
         move_at(
             positions,
-            second,
-            &values.second,
+            pair.second,
+            &pair.values.second,
             base,
             turn.instance,
             is_horizontal,

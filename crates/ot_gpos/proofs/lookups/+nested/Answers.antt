@@ -7,6 +7,7 @@ use Rattle.ot_lookups.specs.LookupProps.{glyph_at}
 use Rattle.ot_gpos.specs.Attachments.{HasNoPixels}
 use Rattle.ot_gpos.specs.Contexts.{AreDone, ahead, looked_at, named, record_done}
 use Rattle.ot_attachments.specs.Flags.{break_marked}
+use Rattle.ot_attachments.proofs.KeptLemmas.{kept_none, kept_then}
 use Rattle.ot_gpos.specs.Lookups.{Applied, Text, applied, outcome, text_of}
 use Rattle.ot_gpos.specs.Nested.{AreTried, IsVisited, nested}
 use Rattle.ot_gpos.specs.Visit.{visit_of}
@@ -28,10 +29,7 @@ place_by_lookup-loop-subtable-init g t c =
     let setting = task.setting.now in
     let a = applied setting.list.now task.lookup.now task.options.now setting.instance in
     record {
-      closed = c.requires.closed;
-      placed = c.requires.placed;
-      rest = refl;
-      flags = λ k bit has. has;
+      kept = kept_none _ c.requires.placed;
       spent = (omega (arith, c.pay_for.ensures.spent.0), omega (arith, c.pay_for.ensures.spent.1));
       exact = λ plain steps o tried.
           subst
@@ -50,10 +48,7 @@ place_by_lookup-loop-subtable-preserved g t c =
     let i = c.loop-subtable.subtable-index in
     let one = c.subtable-item.result in
     record {
-      closed = c.try_subtable-next.ensures.closed;
-      placed = c.try_subtable-next.ensures.placed;
-      rest = c.try_subtable-next.ensures.rest ∙ c.loop-subtable.invariant.rest;
-      flags = λ k bit has. c.try_subtable-next.ensures.flags k bit (c.loop-subtable.invariant.flags k bit has);
+      kept = kept_then _ _ _ c.loop-subtable.invariant.kept c.try_subtable-next.ensures.kept;
       spent = (
         omega (arith, c.loop-subtable.invariant.spent.0, c.try_subtable-next.ensures.spent.0),
         omega (arith, c.loop-subtable.invariant.spent.1, c.try_subtable-next.ensures.spent.1),
@@ -79,8 +74,8 @@ place_by_lookup-try_subtable-next-requires g t c =
     omega (
       arith,
       c.len.ensures.len,
-      len_closed c.args.buffer.now c.requires.closed,
-      same_length c.args.buffer.now c.loop-subtable.buffer c.loop-subtable.invariant.rest,
+      len_closed c.args.buffer.now c.requires.placed.closed,
+      same_length c.args.buffer.now c.loop-subtable.buffer c.loop-subtable.invariant.kept.rest,
     ) in
     let next = next_of_each list.coverages.items list.subtables.items c.subtables_of-subtables.result.now task.lookup.now
     c.loop-subtable.subtable-index c.subtable-item.result c.subtables_of-subtables.ensures list.nexts c.loop-subtable-test.true
@@ -93,8 +88,6 @@ place_by_lookup-returns-then-is_some-clause-exact g t c = λ plain steps.
     let setting = task.setting.now in
     let a = applied setting.list.now task.lookup.now task.options.now setting.instance in
     let ts = c.subtables_of-subtables.result.now in
-    let i = c.loop-subtable.subtable-index in
-    let one = c.subtable-item.result in
     let before : 0 < c.loop-subtable.search.budget.steps = omega (arith, steps, c.try_subtable-next.ensures.spent.1) in
     let old = text_of c.args.buffer.now c.args.last.now c.args.search.now.budget.nested in
     let mid = text_of c.loop-subtable.buffer c.loop-subtable.last c.loop-subtable.search.budget.nested in
@@ -102,10 +95,11 @@ place_by_lookup-returns-then-is_some-clause-exact g t c = λ plain steps.
     (text_of c.try_subtable-next.new.buffer c.try_subtable-next.new.last c.try_subtable-next.new.search.budget.nested)
     c.try_subtable-next.result in
     let within : task.place < length c.info.result.now =
-    omega (arith, ap length c.info.ensures, c.len.ensures.len, len_closed c.args.buffer.now c.requires.closed) in
+    omega (arith, ap length c.info.ensures, c.len.ensures.len, len_closed c.args.buffer.now c.requires.placed.closed) in
     tried_at (nested task.depth a) a task.place c.info.result.now ts old o c.info.ensures c.subtables_of-subtables.ensures within
     (c.loop-subtable.invariant.exact plain before o
-    (left_first (nested task.depth a) a task.place (glyph_at c.info.result.now task.place).glyph_id ts i one mid o
+    (left_first (nested task.depth a) a task.place (glyph_at c.info.result.now task.place).glyph_id ts
+    c.loop-subtable.subtable-index c.subtable-item.result mid o
     c.loop-subtable-test.true c.subtable-item.is (c.try_subtable-next.ensures.exact plain steps)
     (sym c.is_some.ensures ∙ c.if-is_some.true)))
 
@@ -118,7 +112,7 @@ place_by_lookup-returns-clause-exact g t c = λ plain steps.
     let old = text_of c.args.buffer.now c.args.last.now c.args.search.now.budget.nested in
     let mid = text_of c.loop-subtable.buffer c.loop-subtable.last c.loop-subtable.search.budget.nested in
     let within : task.place < length c.info.result.now =
-    omega (arith, ap length c.info.ensures, c.len.ensures.len, len_closed c.args.buffer.now c.requires.closed) in
+    omega (arith, ap length c.info.ensures, c.len.ensures.len, len_closed c.args.buffer.now c.requires.placed.closed) in
     tried_at (nested task.depth a) a task.place c.info.result.now ts old (outcome mid None) c.info.ensures
     c.subtables_of-subtables.ensures within
     (c.loop-subtable.invariant.exact plain steps (outcome mid None)
@@ -176,7 +170,7 @@ try_subtable-returns-clause-exact g t c = λ plain steps.
 pub place_by_context-returns-in_err-fit-clause-exact : goal.place_by_context-returns-in_err-fit-clause-exact
 place_by_context-returns-in_err-fit-clause-exact g t c = λ plain steps.
     let list = c.args.task.now.setting.now.list.now in
-    let turn = c.args.turn.now in
+    let turn = c.args.context.now in
     let s = c.args.buffer.now in
     let left = c.args.search.now.budget.nested in
     let q = c.fit_at-fit.new.search in
@@ -185,8 +179,8 @@ place_by_context-returns-in_err-fit-clause-exact g t c = λ plain steps.
       found = None;
       places = q.places.items;
       reach = q.reach;
-      decided = decided_read list (visit_of turn) c.over_context-context.result _ c.info.result.now s.input q.places.items None
-          c.fit_at-fit.result c.over_context-context.ensures c.info.ensures c.in_err-fit.was (c.fit_at-fit.ensures.decided steps);
+      decided = decided_read list (visit_of turn) c.over_context-around.result _ c.info.result.now s.input q.places.items None
+          c.fit_at-fit.result c.over_context-around.ensures c.info.ensures c.in_err-fit.was (c.fit_at-fit.ensures.decided steps);
       made = ap (outcome (text_of b c.args.last.now q.budget.nested)) c.from_residual.ensures
           ∙ ap (λ (x : Text). outcome x None)
           (text_of-same (looked_at turn.place q.reach s) b c.args.last.now left q.budget.nested
@@ -200,7 +194,7 @@ place_by_context-returns-clause-exact g t c = λ plain steps.
     let setting = task.setting.now in
     let list = setting.list.now in
     let a = applied list task.lookup.now task.options.now setting.instance in
-    let turn = c.args.turn.now in
+    let turn = c.args.context.now in
     let s = c.args.buffer.now in
     let last = c.args.last.now in
     let left = c.args.search.now.budget.nested in
@@ -223,8 +217,8 @@ place_by_context-returns-clause-exact g t c = λ plain steps.
       found = Some fit;
       places = places;
       reach = q.reach;
-      decided = decided_read list (visit_of turn) c.over_context-context.result _ c.info.result.now s.input places (Some fit)
-          c.fit_at-fit.result c.over_context-context.ensures c.info.ensures c.in_ok-fit.was (c.fit_at-fit.ensures.decided before);
+      decided = decided_read list (visit_of turn) c.over_context-around.result _ c.info.result.now s.input places (Some fit)
+          c.fit_at-fit.result c.over_context-around.ensures c.info.ensures c.in_ok-fit.was (c.fit_at-fit.ensures.decided before);
       made = fit_done applies list.lookups.items turn.place places fit old mid c.mark_concat-2.new.buffer c.saturating_add-end.result
           c.saturating_add-2.result
           (records_at applies list.lookups.items turn.place places fit task.place c.replace-places.result.items
@@ -243,10 +237,7 @@ apply_records-loop-index-init g t c =
     let setting = task.setting.now in
     let a = applied setting.list.now task.lookup.now task.options.now setting.instance in
     record {
-      closed = c.requires.closed;
-      placed = c.requires.placed;
-      rest = refl;
-      flags = λ k bit has. has;
+      kept = kept_none _ c.requires.placed;
       spent = (omega arith, omega arith);
       exact = λ plain steps.
           done_none
@@ -288,10 +279,7 @@ apply_records-loop-index-preserved g t c =
           let end = text_of call.new.buffer call.new.last call.new.search.budget.nested in
           rw (w.buffer-is, w.last-is, w.search-is)
           (record {
-            closed = call.ensures.closed;
-            placed = call.ensures.placed;
-            rest = call.ensures.rest ∙ c.loop-index.invariant.rest;
-            flags = λ i bit has. call.ensures.flags i bit (c.loop-index.invariant.flags i bit has);
+            kept = kept_then _ _ _ c.loop-index.invariant.kept call.ensures.kept;
             spent = (
               omega (arith, c.loop-index.invariant.spent.0, w.nest.ensures.spent.0, call.ensures.spent.0),
               omega (arith, c.loop-index.invariant.spent.1, w.nest.ensures.spent.1, call.ensures.spent.1),
@@ -310,10 +298,7 @@ apply_records-loop-index-preserved g t c =
       | apply_records-in_default w ↦
           rw (w.buffer-is, w.last-is, w.search-is)
           (record {
-            closed = c.loop-index.invariant.closed;
-            placed = c.loop-index.invariant.placed;
-            rest = c.loop-index.invariant.rest;
-            flags = c.loop-index.invariant.flags;
+            kept = c.loop-index.invariant.kept;
             spent = c.loop-index.invariant.spent;
             exact = λ plain steps.
                 done_next does k old mid mid (c.loop-index.invariant.exact plain steps)

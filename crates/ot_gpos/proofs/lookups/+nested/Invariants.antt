@@ -1,8 +1,7 @@
-use Rattle.std.proofs.Common.{◌≡◌, ◌+◌, ◌*◌, ◌<◌, drop, false}
-use Rattle.std.specs.Prelude.{IsSome}
+use Rattle.std.proofs.Common.{◌+◌, ◌*◌, ◌<◌, drop}
 use Rattle.ot_gpos.specs.Attachments.{HasNoPixels}
 use Rattle.ot_gpos.specs.Contexts.{AreDone, record_done}
-use Rattle.ot_attachments.specs.Flags.{KeepsBits, untouched}
+use Rattle.ot_attachments.specs.Flags.{KeepsText}
 use Rattle.ot_gpos.specs.Lookups.{Outcome, applied, text_of}
 use Rattle.ot_gpos.specs.Nested.{AreTried, nested}
 use Rattle.ot_layout.specs.Budget.{IsNotMore}
@@ -14,10 +13,7 @@ invariant-place_by_lookup-loop-subtable g l =
     let setting = l.task.setting.now in
     let a = applied setting.list.now l.task.lookup.now l.task.options.now setting.instance in
     record {
-      closed : l.buffer.have_output ≡ false;
-      placed : IsSome l.buffer.positions;
-      rest : untouched l.buffer ≡ untouched l.fn.buffer;
-      flags : KeepsBits l.fn.buffer.input l.buffer.input;
+      kept : KeepsText l.fn.buffer l.buffer;
       spent : IsNotMore l.fn.search.budget l.search.budget;
       exact : HasNoPixels setting.instance → 0 < l.search.budget.steps → (o : Outcome)
           → AreTried (nested l.task.depth a) a l.task.place l.glyph (drop l.subtable-index l.subtables)
@@ -32,10 +28,7 @@ invariant-apply_records-loop-index g l =
     let setting = l.task.setting.now in
     let a = applied setting.list.now l.task.lookup.now l.task.options.now setting.instance in
     record {
-      closed : l.buffer.have_output ≡ false;
-      placed : IsSome l.buffer.positions;
-      rest : untouched l.buffer ≡ untouched l.fn.buffer;
-      flags : KeepsBits l.fn.buffer.input l.buffer.input;
+      kept : KeepsText l.fn.buffer l.buffer;
       spent : IsNotMore l.fn.search.budget l.search.budget;
       exact : HasNoPixels setting.instance → 0 < l.search.budget.steps
           → AreDone

@@ -5,6 +5,7 @@ use Rattle.ot_layout.specs.declared.budget.Budget.{Budget}
 use Rattle.ot_lookups.specs.Lookup.{is_for}
 use Rattle.ot_lookups.specs.LookupProps.{glyph_at}
 use Rattle.ot_lookups.specs.declared.lookup_list.Lookup.{Lookup}
+use Rattle.ot_attachments.proofs.KeptLemmas.{kept_none, kept_then}
 use Rattle.ot_gpos.specs.Attachments.{nothing_sought}
 use Rattle.ot_gpos.specs.Lookups.{applied, outcome, text_of}
 use Rattle.ot_gpos.specs.Runs.{IsPositioned, IsPositionedBy}
@@ -24,10 +25,7 @@ returns-in_default-clause-exact g c = λ plain steps.
 
 pub loop-turn-init : goal.loop-turn-init
 loop-turn-init g c = record {
-  closed = c.requires.closed;
-  placed = c.requires.placed;
-  rest = refl;
-  flags = λ k bit has. has;
+  kept = kept_none _ c.requires.placed;
   spent = (omega (arith, c.pay_for.ensures.spent.0), omega (arith, c.pay_for.ensures.spent.1));
   far = omega arith;
   exact = λ plain steps.
@@ -46,15 +44,12 @@ loop-turn-preserved g c =
     let b = c.loop-turn.buffer in
     let gs = c.info.result.now in
     let place = c.next_place-place.result in
-    let same : length b.input ≡ length s.input = same_length s b c.loop-turn.invariant.rest in
+    let same : length b.input ≡ length s.input = same_length s b c.loop-turn.invariant.kept.rest in
     let read : length gs ≡ length b.input = ap length c.info.ensures in
     let within : place < length gs =
-    omega (arith, read, c.next_place-place.ensures.within, c.if-place-len.false, c.len-in-loop-turn.ensures.len, len_closed b c.loop-turn.invariant.closed) in
+    omega (arith, read, c.next_place-place.ensures.within, c.if-place-len.false, c.len-in-loop-turn.ensures.len, len_closed b c.loop-turn.invariant.kept.placed.closed) in
     record {
-      closed = c.place_by_lookup.ensures.closed;
-      placed = c.place_by_lookup.ensures.placed;
-      rest = c.place_by_lookup.ensures.rest ∙ c.loop-turn.invariant.rest;
-      flags = λ k bit has. c.place_by_lookup.ensures.flags k bit (c.loop-turn.invariant.flags k bit has);
+      kept = kept_then _ _ _ c.loop-turn.invariant.kept c.place_by_lookup.ensures.kept;
       spent = (
         omega (arith, c.loop-turn.invariant.spent.0, c.place_by_lookup.ensures.spent.0),
         omega (arith, c.loop-turn.invariant.spent.1, c.place_by_lookup.ensures.spent.1),
@@ -68,7 +63,7 @@ loop-turn-preserved g c =
         c.next_place-place.ensures.from,
         c.loop-turn-test.true,
         c.len-turn-end.ensures.len,
-        len_closed s c.requires.closed,
+        len_closed s c.requires.placed.closed,
         c.max-next.ensures,
       );
       exact = λ plain steps.
@@ -92,7 +87,7 @@ returns-then-place-len-clause-exact g c = λ plain steps.
     let b = c.loop-turn.buffer in
     let old = text_of s nothing_sought c.args.search.now.budget.nested in
     let mid = text_of b c.loop-turn.last c.loop-turn.search.budget.nested in
-    let same : length b.input ≡ length s.input = same_length s b c.loop-turn.invariant.rest in
+    let same : length b.input ≡ length s.input = same_length s b c.loop-turn.invariant.kept.rest in
     let left = c.args.search.now.budget.nested in
     let rest = c.loop-turn.search.budget.nested in
     let done : IsPositionedBy a left s rest b =
@@ -103,7 +98,7 @@ returns-then-place-len-clause-exact g c = λ plain steps.
         done = under_way-end a old c.loop-turn.next mid (c.loop-turn.invariant.exact plain steps) same
             (λ k up less.
             let before : k < c.next_place-place.result =
-            omega (arith, less, w.if-place-len.true, c.len-in-loop-turn.ensures.len, len_closed b c.loop-turn.invariant.closed) in
+            omega (arith, less, w.if-place-len.true, c.len-in-loop-turn.ensures.len, len_closed b c.loop-turn.invariant.kept.placed.closed) in
             ap (λ (l : List hb_glyph_info_t). is_for c.in-Some.lookup.now c.args.options.now.mask (glyph_at l k))
             (sym c.info.ensures)
             ∙ c.next_place-place.ensures.passed k up before);
@@ -119,17 +114,16 @@ returns-clause-exact g c = λ plain steps.
     let s = c.args.buffer.now in
     let b = c.loop-turn.buffer in
     let old = text_of s nothing_sought c.args.search.now.budget.nested in
-    let mid = text_of b c.loop-turn.last c.loop-turn.search.budget.nested in
-    let same : length b.input ≡ length s.input = same_length s b c.loop-turn.invariant.rest in
+    let same : length b.input ≡ length s.input = same_length s b c.loop-turn.invariant.kept.rest in
     let all : length s.input ≤ c.loop-turn.next =
-    omega (arith, c.loop-turn.invariant.far, c.loop-turn-test.false, c.len-turn-end.ensures.len, len_closed s c.requires.closed) in
+    omega (arith, c.loop-turn.invariant.far, c.loop-turn-test.false, c.len-turn-end.ensures.len, len_closed s c.requires.placed.closed) in
     let left = c.args.search.now.budget.nested in
     let rest = c.loop-turn.search.budget.nested in
     let done : IsPositionedBy a left s rest b =
     record {
       last = c.loop-turn.last;
       next = c.loop-turn.next;
-      done = under_way-end a old c.loop-turn.next mid (c.loop-turn.invariant.exact plain steps) same
+      done = under_way-end a old c.loop-turn.next (text_of b c.loop-turn.last rest) (c.loop-turn.invariant.exact plain steps) same
           (λ k up less. absurd (omega (arith, all, up, less, same)));
     } in
     subst (λ (o : Option Lookup). IsPositioned c.args.setting.now.list.now o c.args.options.now c.args.setting.now.instance left s rest b)

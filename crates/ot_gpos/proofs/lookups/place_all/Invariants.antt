@@ -1,8 +1,7 @@
-use Rattle.std.proofs.Common.{◌≡◌, ◌<◌, ◌≤◌, false}
-use Rattle.std.specs.Prelude.{IsSome}
+use Rattle.std.proofs.Common.{◌<◌, ◌≤◌}
 use Rattle.ot_layout.specs.Budget.{IsNotMore}
 use Rattle.ot_gpos.specs.Attachments.{HasNoPixels, nothing_sought}
-use Rattle.ot_attachments.specs.Flags.{KeepsBits, untouched}
+use Rattle.ot_attachments.specs.Flags.{KeepsText}
 use Rattle.ot_gpos.specs.Lookups.{applied, text_of}
 use Rattle.ot_gpos.proofs.RunsLemmas.{IsUnderWay}
 use Rattle.ot_gpos.proofs.lookups.place_all.Given as goal
@@ -10,10 +9,7 @@ use Rattle.ot_gpos.proofs.lookups.place_all.Given as goal
 -- the glyphs before the place where the lookup goes on are done
 abbrev pub invariant-loop-turn : goal.invariant-loop-turn
 invariant-loop-turn g l = record {
-  closed : l.buffer.have_output ≡ false;
-  placed : IsSome l.buffer.positions;
-  rest : untouched l.buffer ≡ untouched l.fn.buffer;
-  flags : KeepsBits l.fn.buffer.input l.buffer.input;
+  kept : KeepsText l.fn.buffer l.buffer;
   spent : IsNotMore l.fn.search.budget l.search.budget;
   far : l._turn ≤ l.next;
   exact : HasNoPixels l.setting.instance → 0 < l.search.budget.steps

@@ -2,13 +2,12 @@ use Rattle.std.proofs.Common.{sym, subst, ◌∙◌}
 use Rattle.std.specs.Prelude.{slice_get}
 use Rattle.shaping_buffer.specs.State.{State}
 use Rattle.ot_gpos.specs.Runs.{IsPositioned}
-use Rattle.ot_attachments.proofs.FlagLemmas.{keeps_by}
+use Rattle.ot_attachments.proofs.FlagLemmas.{keeps_untouched}
 use Rattle.ot_gpos.proofs.lookups.position.Goals as goal
 
 pub returns-clause-keeps : goal.returns-clause-keeps
 returns-clause-keeps g c =
-    keeps_by c.args.buffer.now c.fail_if_spent.new.buffer (c.out_len.ensures.closed c.requires.closed)
-    (c.out_len-2.ensures.closed c.fail_if_spent.ensures.closed) (c.fail_if_spent.ensures.rest ∙ c.place_all.ensures.rest)
+    keeps_untouched c.args.buffer.now c.fail_if_spent.new.buffer (c.fail_if_spent.ensures.kept.rest ∙ c.place_all.ensures.kept.rest)
 
 pub returns-clause-exact : goal.returns-clause-exact
 returns-clause-exact g c = λ plain steps.
