@@ -47,7 +47,7 @@ class Clauses:
             test = self.implication()
         except Unknown:
             return None
-        return test if self.place == len(self.words) and test[1] == "bool" else None
+        return test if self.place == len(self.words) and test[1] in ("bool", "bools") else None
 
     def peek(self):
         return self.words[self.place] if self.place < len(self.words) else ""
@@ -122,6 +122,11 @@ class Clauses:
             return f"{end}.unwrap_or({name}.len()).min({name}.len())", "number"
         if word == "IsSome":
             return self.positions(self.step()), "bool"
+        if word == "HasPositions":
+            name, rest, kind = self.root(self.step())
+            if rest or kind != "hb_buffer_t":
+                raise Unknown
+            return f"!{name}.have_output() && {name}.have_positions()", "bools"
         if word == "IsScalar":
             value, kind = self.value(self.step())
             if kind != "number":
