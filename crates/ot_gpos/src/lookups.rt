@@ -58,7 +58,6 @@ struct Task<'a, P> {
 
 /// Positions the glyphs by the lookup of this index, where the buffer's glyphs have one of the options' bits. A budget that is spent
 /// ends the iterator, and `buffer.shaping_failed` says so.
-#[tactic(auto, using(ot_attachments::proofs::FlagLemmas::keeps_untouched))]
 pub fn position<P: ContourPoints>(
     buffer: &mut hb_buffer_t,
     setting: &Setting<P>,
