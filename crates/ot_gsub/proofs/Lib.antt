@@ -7,6 +7,7 @@
 pub mod BufferLemmas
 pub mod ChangesLemmas
 pub mod EditsLemmas
+pub mod ForwardLemmas
 pub mod LigaturesLemmas
 pub mod NestedLemmas
 pub mod Rows

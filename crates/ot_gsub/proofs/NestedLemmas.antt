@@ -38,48 +38,66 @@ module _ (r : SequenceLookupRecord) (m : Match) (s : State) where
 
 -- ---- one record
 
+-- the answer of a call
+given : (o : Outcome) (told done : Bool) (new : State) → told ≡ done → (told ≡ o.done) × (new ≡ o.state) → Gives o done new
+given o told done new is met = record { answer = sym is ∙ met.0; state = met.1 }
+
 module _ (applies : Applies) (r : SequenceLookupRecord) (m : Match) (s : State) (p : Progress) where
-  module _ (place : ℕ) (is : slice_get m.places r.sequence_index ≡ Some place) (yes : is_there r m s ≡ true) where
+  -- the glyph of the record stands at a place of both sides
+  module _ (place before : ℕ) (is : slice_get m.places r.sequence_index ≡ Some place) (count : before ≡ both_len s)
+      (less : place < before) where
     abbrev outcome : Outcome
     outcome = move_to (slice_index m.places r.sequence_index) s
 
     outcome_is : move_to place s ≡ outcome
     outcome_is = ap (λ i. move_to i s) (index_is r m s place is)
 
-    -- the move is refused
-    pub done_refused : (b : State) (new : Now) → Gives (move_to place s) false b → new ≡ now_of b p
-        → IsRecordDone applies r m (now_of s p) Refused m new
-    done_refused b new gives at =
-        let g = subst (λ (o : Outcome). Gives o false b) outcome_is gives in
-        record {
-          passed = λ out. absurd (false≢true (sym out ∙ yes));
-          there = λ _. record {
-            refused = λ _. (refl, refl, at ∙ ap (λ (t : State). now_of t p) g.state);
-            moved = λ done. absurd (false≢true (g.answer ∙ done));
-          };
-        }
+    yes : is_there r m s ≡ true
+    yes = there r m s place before is count less
 
-    -- the lookup is tried
-    pub done_by : (b : State) (at : Now) (before : ℕ) (step : Step) (mid : Now) (turn : Turn) (n : Match) (new : Now)
-        → Gives (move_to place s) true b → at ≡ now_of b p → before ≡ both_len s
-        → applies r.lookup at step mid → IsFollowed r.sequence_index before step m mid turn n new
-        → IsRecordDone applies r m (now_of s p) turn n new
-    done_by b at before step mid turn n new gives same count applied follows =
-        let g = subst (λ (o : Outcome). Gives o true b) outcome_is gives in
-        let there_at : at ≡ record (now_of s p) { buffer = outcome.state } =
-        same ∙ ap (λ (t : State). now_of t p) g.state in
-        record {
-          passed = λ out. absurd (false≢true (sym out ∙ yes));
-          there = λ _. record {
-            refused = λ out. absurd (false≢true (sym out ∙ sym g.answer));
-            moved = λ _. record {
-              step = step;
-              mid = mid;
-              applied = subst (λ (o : Now). applies r.lookup o step mid) there_at applied;
-              follows = subst (λ c. IsFollowed r.sequence_index c step m mid turn n new) count follows;
+    -- and the cursor was to move there, of which this came, with as many lookups left as before
+    module _ (told : Bool) (b : State) (left : ℕ) (met : (told ≡ (move_to place s).done) × (b ≡ (move_to place s).state))
+        (same : left ≡ p.search.budget.nested) where
+      abbrev at : Now
+      at = record (now_of b p) { left = left }
+
+      gives : (done : Bool) → told ≡ done → Gives outcome done b
+      gives done is_done =
+          subst (λ (o : Outcome). Gives o done b) outcome_is (given (move_to place s) told done b is_done met)
+
+      -- the move is refused
+      pub done_refused : told ≡ false → IsRecordDone applies r m (now_of s p) Refused m at
+      done_refused halted =
+          let g = gives false halted in
+          record {
+            passed = λ out. absurd (false≢true (sym out ∙ yes));
+            there = λ _. record {
+              refused = λ _. (refl, refl, ap (λ k. record (now_of b p) { left = k }) same ∙ ap (λ (t : State). now_of t p) g.state);
+              moved = λ done. absurd (false≢true (g.answer ∙ done));
             };
-          };
-        }
+          }
+
+      -- the lookup is tried
+      pub done_by : (tried step : Step) (mid : Now) (turn : Turn) (n : Match) (new : Now) → told ≡ true
+          → applies r.lookup at tried mid → tried ≡ step → IsFollowed r.sequence_index before step m mid turn n new
+          → IsRecordDone applies r m (now_of s p) turn n new
+      done_by tried step mid turn n new moved applied was follows =
+          let g = gives true moved in
+          let there_at : at ≡ record (now_of s p) { buffer = outcome.state } =
+          ap (λ k. record (now_of b p) { left = k }) same ∙ ap (λ (t : State). now_of t p) g.state in
+          record {
+            passed = λ out. absurd (false≢true (sym out ∙ yes));
+            there = λ _. record {
+              refused = λ out. absurd (false≢true (sym out ∙ sym g.answer));
+              moved = λ _. record {
+                step = step;
+                mid = mid;
+                applied = subst (λ (x : Step). applies r.lookup (record (now_of s p) { buffer = outcome.state }) x mid) was
+                    (subst (λ (o : Now). applies r.lookup o tried mid) there_at applied);
+                follows = subst (λ c. IsFollowed r.sequence_index c step m mid turn n new) count follows;
+              };
+            };
+          }
 
 -- ---- records in a row
 
@@ -138,17 +156,20 @@ module _ (applies : Applies) (table : List ℕ) where
         (sym (records_next k (count - k) r (omega (arith, less)) is))
         (done_next r (records_from table (k + 1) (count - k - 1)) m old turn n mid done new first others)
 
-    pub left_next : IsRecordDone applies r m old On n mid → Left (k + 1) count n mid done new → Left k count m old done new
-    left_next first rest =
-        let e : count - (k + 1) ≡ count - k - 1 = omega arith in
-        left_by On first
-        (subst (λ i. AreDone applies (records_from table (k + 1) i) n mid done new) e rest)
+    module _ (turn : Turn) (first : IsRecordDone applies r m old turn n mid) where
+      turned : (t : Turn) → turn ≡ t → IsRecordDone applies r m old t n mid
+      turned t was = subst (λ (x : Turn). IsRecordDone applies r m old x n mid) was first
 
-    pub left_enough : IsRecordDone applies r m old Enough n mid → IsBehind n mid done new → Left k count m old done new
-    left_enough first behind = left_by Enough first behind
+      pub left_next : turn ≡ On → Left (k + 1) count n mid done new → Left k count m old done new
+      left_next was rest =
+          let e : count - (k + 1) ≡ count - k - 1 = omega arith in
+          left_by On (turned On was) (subst (λ i. AreDone applies (records_from table (k + 1) i) n mid done new) e rest)
 
-    pub left_refused : IsRecordDone applies r m old Refused n mid → done ≡ false → new ≡ mid → Left k count m old done new
-    left_refused first halt at = left_by Refused first (halt, at)
+      pub left_enough : turn ≡ Enough → IsBehind n mid done new → Left k count m old done new
+      left_enough was behind = left_by Enough (turned Enough was) behind
+
+      pub left_refused : turn ≡ Refused → done ≡ false → new ≡ mid → Left k count m old done new
+      left_refused was halt at = left_by Refused (turned Refused was) (halt, at)
 
 -- the cursor goes behind the match
 pub fit_ended : (applies : Applies) (fit : Fit) (places : List ℕ) (s b : State) (p q : Progress) (m : Match) (result : Result Bool AllocError)
@@ -171,10 +192,6 @@ pub along : (P : State → Progress → Matched → Type 0) (b c : State) (p q :
 along P b c p q m n same_buffer same_progress same_match holds =
     subst (λ (x : State). P x q n) (sym same_buffer)
     (subst (λ (x : Progress). P b x n) (sym same_progress) (subst (λ (x : Matched). P b p x) (sym same_match) holds))
-
--- the answer of a call
-pub given : (o : Outcome) (told done : Bool) (new : State) → told ≡ done → (told ≡ o.done) × (new ≡ o.state) → Gives o done new
-given o told done new is met = record { answer = sym is ∙ met.0; state = met.1 }
 
 -- what is left is the input, where an output is open
 pub lookahead_len-opened : (s : State) → s.have_output ≡ true → lookahead_len s ≡ length s.input

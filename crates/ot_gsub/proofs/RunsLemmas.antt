@@ -12,7 +12,7 @@ use Rattle.ot_lookups.specs.Lookup.{is_for}
 use Rattle.ot_lookups.specs.LookupProps.{glyph_at}
 use Rattle.ot_lookups.specs.declared.lookup_list.Lookup.{Lookup}
 use Rattle.shaping_buffer.specs.State.{State}
-use Rattle.shaping_buffer.specs.Step.{Meets, Outcome, clear_output, next_glyph, sync, unlimited}
+use Rattle.shaping_buffer.specs.Step.{Outcome, clear_output, next_glyph, unlimited}
 use Rattle.ot_gsub.specs.Nested.{Now}
 use Rattle.ot_gsub.specs.Runs.{AreDoneBackward, AreGlyphsDone, HasDone, IsForward, IsGlyphDone, IsPlaceDone, IsPutOut, IsRestDone, IsRunOf, IsStop, IsStopped, IsTried, IsUnderWay, IsWanting, opened}
 use Rattle.ot_gsub.specs.Singles.{GoesOn, opened_at, starts_reverse}
@@ -48,7 +48,7 @@ module _ (substitutions : Substitutions) (lookup : Lookup) where
   unfolding AreGlyphsDone
   done_one old new first = record { mid = new; first = first; others = refl }
 
-  done_then : (m n : ℕ) (old mid new : Now) → Done m old mid → Done n mid new → Done (m + n) old new
+  pub done_then : (m n : ℕ) (old mid new : Now) → Done m old mid → Done n mid new → Done (m + n) old new
   unfolding AreGlyphsDone
   done_then zero n old mid new first rest =
       let e : n ≡ zero + n = omega arith in
@@ -59,7 +59,7 @@ module _ (substitutions : Substitutions) (lookup : Lookup) where
       record { mid = first.mid; first = first.first; others = done_then m n first.mid mid new first.others rest } in
       subst (λ k. Done k old new) e all
 
-  stopped_then : (m : ℕ) (old mid : Now) (result : Result Bool AllocError) → Done m old mid → Stopped mid result
+  pub stopped_then : (m : ℕ) (old mid : Now) (result : Result Bool AllocError) → Done m old mid → Stopped mid result
       → Stopped old result
   stopped_then m old mid result first s = record {
     turns = m + s.turns;
@@ -419,31 +419,6 @@ module _ (substitutions : Substitutions) (lookup : Lookup) (old : Now) where
       forward = λ _ ahead. absurd (false≢true (sym ahead ∙ back));
       backward = λ _ _. (refl, is);
     }
-
-  -- ---- from its beginning
-
-  -- some glyphs are put out, and then it is stopped
-  pub forward_stopped : (first : ℕ) (mid : Now) (result : Result Bool AllocError) (new : Now)
-      → AreGlyphsDone substitutions lookup first (opened old) mid → IsStopped substitutions lookup mid result
-      → IsForward substitutions lookup old result new
-  forward_stopped first mid result new before stop =
-      inr (stopped_then substitutions lookup first (opened old) mid result before stop)
-
-  -- all are done, and the output is closed
-  pub forward_through : (first least : ℕ) (mid end : Now) (result : Result Bool AllocError) (new : Now)
-      → AreGlyphsDone substitutions lookup first (opened old) mid → HasDone substitutions lookup least mid end
-      → length old.buffer.input ≤ first + length mid.buffer.input
-      → ((length end.buffer.input ≡ 0) ⊎ (length mid.buffer.input ≤ least))
-      → Meets (sync end.buffer) end.buffer result new.buffer → new ≡ record end { buffer = new.buffer }
-      → IsForward substitutions lookup old result new
-  forward_through first least mid end result new before rest long all meets same = inl (record {
-    turns = first + rest.turns;
-    mid = end;
-    glyphs = done_then substitutions lookup first rest.turns (opened old) mid end before rest.glyphs;
-    all = elim all [ inl none ↦ inl none | inr up ↦ inr (omega (arith, up, long, rest.from)) ];
-    closed = meets;
-    others = same;
-  })
 
   -- ---- from its end
 

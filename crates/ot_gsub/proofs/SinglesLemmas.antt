@@ -20,11 +20,12 @@ use Rattle.shaping_buffer.specs.State.{State, len}
 use Rattle.shaping_buffer.specs.ClusterStep.{asks}
 use Rattle.shaping_buffer.specs.Step.{Meets, Outcome, limited, sync}
 use Rattle.ot_gsub.specs.Singles.{GoesOn, HasMoved, IsForNext, IsLevel, IsSingle, IsSubstituted, first_single, give_way, moved, opened_at, starts_reverse, substituted}
-use Rattle.ot_gsub.specs.Nested.{Applies, Now}
-use Rattle.ot_gsub.specs.Turn.{IsTurn, subtables}
+use Rattle.ot_gsub.specs.Nested.{Applies, Now, now_of}
+use Rattle.ot_gsub.specs.Turn.{IsTurn, IsTurnAt, subtables}
 use Rattle.ot_gsub.proofs.EditsLemmas.{state-limited}
 use Rattle.ot_gsub.specs.declared.nested.Step.{Step}
 use Rattle.ot_gsub.specs.declared.nested.Step.TheVariants.{Applied, Passed, Refused}
+use Rattle.ot_gsub.specs.declared.substitution.Progress.{Progress}
 use Rattle.ot_gsub.specs.declared.substitution.Substitutions.{Substitutions}
 use Rattle.ot_gsub.proofs.SingleTurnLemmas.{Turned, on_stored, settled_level, stored, stored_is, turned}
 
@@ -201,6 +202,14 @@ module _ (substitutions : Substitutions) (lookup : Lookup) where
       (λ (x : State). IsTurn applies substitutions lookup nested (record { buffer = x; random = random; left = left }) result new)
       e t))
 
+  -- the same from the answer of a turn in which lookups may apply others 64 levels deep
+  pub leads_by_turn : (s : State) (p : Progress) (told result : Result Step AllocError) (new : Now) → IsLevel s
+      → IsSingle substitutions lookup s → IsForNext substitutions lookup s → 0 < length s.input → told ≡ result
+      → IsTurnAt 64 substitutions lookup (now_of s p) told new → LeadsOn s result new.buffer
+  leads_by_turn s p told result new is single next some was turn =
+      leads_on s _ _ _ _ result new is single next some
+      (subst (λ (r : Result Step AllocError). IsTurnAt 64 substitutions lookup (now_of s p) r new) was turn)
+
   -- the answer of what is passed over, in the storage of the input
   abbrev Goes : ℕ → State → Result Bool AllocError → State → Type 0
   Goes start new1 result new2 = IfOk result (λ done. GoesOn lookup substitutions.options.mask start new1 done new2)
@@ -324,6 +333,19 @@ module _ (substitutions : Substitutions) (lookup : Lookup) where
   pub opened_single_at : (n : ℕ) (s b : State) → b ≡ opened_at n s → IsSingle substitutions lookup s
       → IsSingle substitutions lookup b
   opened_single_at n s b at is = subst (IsSingle substitutions lookup) (sym at) (opened_single n s is)
+
+  -- and the rest is done from there
+  pub rest_moved : (n : ℕ) (s b : State) (told : Result Bool AllocError) (end : State) → b ≡ opened_at n s
+      → s.have_output ≡ false → len s ≤ s.max_len → n ≤ length s.input
+      → (n < length s.input → is_taken (glyph_at s.input n) ≡ true) → IsSingle substitutions lookup s
+      → (IsSingle substitutions lookup b → IsLevel b → IsForNext substitutions lookup b
+      → (told ≡ Ok true) × (end ≡ moved of (length b.input) b))
+      → (told ≡ Ok true) × (end ≡ moved of (length (drop n s.input)) (opened_at n s))
+  rest_moved n s b told end at shut fits within some single done =
+      let long : length s.input ≤ s.max_len = omega (arith, fits, len_closed s shut) in
+      let is = done (opened_single_at n s b at single) (subst IsLevel (sym at) (opened_level n s within long))
+      (subst (IsForNext substitutions lookup) (sym at) (opened_next n s some)) in
+      (is.0, is.1 ∙ ap (λ (o : State). moved of (length o.input) o) at)
 
   -- what the closed buffer has
   abbrev closed : State → State

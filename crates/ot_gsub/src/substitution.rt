@@ -8,7 +8,7 @@ ghost use Rattle.ot_lookups.specs.LookupProps.{glyph_at};
 ghost use Rattle.ot_gsub.specs.Changes.{TellsChanges, glyph_numbers};
 ghost use Rattle.ot_gsub.specs.Nested.{now_of};
 ghost use Rattle.ot_gsub.specs.Open.{IsLeftOpen, IsLeftClosed};
-ghost use Rattle.ot_gsub.specs.Runs.{IsForward, IsRestDone, IsRun, IsRunOf, IsUnderWay, IsWanting};
+ghost use Rattle.ot_gsub.specs.Runs.{IsForward, IsRestDone, IsRun, IsUnderWay, IsWanting};
 ghost use Rattle.ot_gsub.specs.Singles.{GoesOn, HasMoved, IsForNext, IsLevel, IsSingle, IsSingleIf, IsSubstituted, moved, opened_at, starts_reverse, substituted};
 ghost use Rattle.shaping_buffer.specs.KeepsClusters.{KeepsClusters};
 ghost use Rattle.shaping_passes.specs.Refusals.{IsRefusal};
@@ -103,34 +103,6 @@ pub fn substitute(
     if first == buffer.len() {
         return Ok(true);
     }
-    apply(buffer, substitutions, lookup, first, progress)
-}
-
-/// Applies a lookup at each glyph, from the side that it is applied from.
-fn apply(
-    buffer: &mut hb_buffer_t,
-    substitutions: &Substitutions,
-    lookup: &Lookup,
-    first: usize,
-    progress: &mut Progress,
-) -> Result<bool, AllocError>
-    requires closed { buffer.old.have_output ≡ false }
-    requires first { first ≤ length buffer.old.input }
-    requires passed { (place : ℕ) → place < first
-        → is_for lookup.now substitutions.now.options.mask (glyph_at buffer.old.input place) ≡ false }
-    requires at { first < length buffer.old.input
-        → is_for lookup.now substitutions.now.options.mask (glyph_at buffer.old.input first) ≡ true }
-    ensures run { 0 < progress.new.search.budget.steps → first < length buffer.old.input
-        → IsRunOf substitutions.now lookup.now (now_of buffer.old progress.old) result (now_of buffer.new progress.new) }
-    ensures singles { 0 < progress.new.search.budget.steps → buffer.old.successful ≡ true
-        → IsSingle substitutions.now lookup.now buffer.old
-        → IsSubstituted substitutions.now (Some lookup.now) buffer.old result buffer.new }
-    ensures tells { result ≡ Ok true → TellsChanges buffer.old progress.old.has_changed buffer.new progress.new.has_changed }
-    ensures left { IsLeftClosed result buffer.new }
-    ensures spent { IsNotMore progress.old.search.budget progress.new.search.budget }
-    ensures refusal { IsRefusal false result buffer.new }
-    ensures keeps { KeepsClusters buffer.old buffer.new }
-{
     if progress.search.budget.is_spent() {
         fail(buffer);
         return Ok(true);
@@ -225,7 +197,7 @@ fn substitute_rest(
     lookup: &Lookup,
     progress: &mut Progress,
 ) -> Result<bool, AllocError>
-    requires opened { buffer.old.have_output ≡ true }
+    requires { buffer.old.have_output ≡ true }
     ensures rest { 0 < progress.new.search.budget.steps → IsForNext substitutions.now lookup.now buffer.old
         → IsRestDone substitutions.now lookup.now (now_of buffer.old progress.old) result (now_of buffer.new progress.new) }
     ensures singles { 0 < progress.new.search.budget.steps → IsSingle substitutions.now lookup.now buffer.old

@@ -5,19 +5,16 @@ use Rattle.ot_layout.specs.declared.budget.Budget.{Budget}
 use Rattle.shaping_buffer.proofs.KeepsLemmas.{keeps_then}
 use Rattle.shaping_buffer.specs.KeepsClusters.{KeepsClusters}
 use Rattle.shaping_buffer.specs.State.{State}
-use Rattle.shaping_buffer.specs.Step.{move_to}
 use Rattle.ot_gsub.specs.Changes.{glyph_numbers}
 use Rattle.ot_contexts.specs.MatchPositions.{match_of}
-use Rattle.ot_gsub.specs.Nested.{IsRecordDone, Now, now_of}
+use Rattle.ot_gsub.specs.Nested.{now_of}
 use Rattle.ot_gsub.specs.Turn.{nested}
-use Rattle.ot_gsub.specs.declared.nested.Step.{Step}
 use Rattle.ot_gsub.specs.declared.nested.Step.TheVariants as step
 use Rattle.ot_gsub.specs.declared.nested.Step.TheVariants.{Applied, Passed}
-use Rattle.ot_gsub.specs.declared.nested.Turn.{Turn}
 use Rattle.ot_gsub.specs.declared.nested.Turn.TheVariants.{On, Refused}
 use Rattle.ot_gsub.specs.declared.substitution.Progress.{Progress}
 use Rattle.ot_gsub.proofs.ChangesLemmas.{glyph_numbers-mark_reach}
-use Rattle.ot_gsub.proofs.NestedLemmas.{Leads, along, done_by, done_refused, fit_ended, given, left_cut, left_enough, left_next, left_none, lookahead_len-opened, left_refused, none_left, there}
+use Rattle.ot_gsub.proofs.NestedLemmas.{Leads, along, done_by, done_refused, fit_ended, left_cut, left_enough, left_next, left_none, lookahead_len-opened, left_refused, none_left}
 use Rattle.ot_gsub.proofs.TurnLemmas.{ends_by_choose, nested-at_end, nested-given_up, nested-not_there, nested_by_turn, turn_applied, turn_err, turn_refused}
 use Rattle.ot_gsub.proofs.nested.+nested.Goals as goal
 use Rattle.ot_gsub.proofs.nested.+nested.Goals.{apply_fit-else-loop-index-test, apply_fit-then-loop-index-test+in_default, apply_fit-then-loop-index-test+in-Some+in_ok-apply_record+in-Enough}
@@ -111,17 +108,11 @@ apply_other-returns-in-None-clause-applied t c = λ steps.
 
 pub apply_record-returns-then-not-branch-clause-done : goal.apply_record-returns-then-not-branch-clause-done
 apply_record-returns-then-not-branch-clause-done t c = λ steps.
-    let s = c.args.buffer.now in
-    let p = c.args.progress.now in
-    let r = c.args.lookup_record.now in
-    let m = match_of c.args.matched.now in
-    let b = c.move_to.new.self in
-    let is = sym c.place.ensures ∙ c.in-Some.is in
-    done_refused (nested c.args.depth c.args.substitutions.now) r m s p c.in-Some.place is
-    (there r m s c.in-Some.place c.both_len-before.result is c.both_len-before.ensures.is (omega (arith, c.if-place-before.false)))
-    b _ (given (move_to c.in-Some.place s) c.in_ok-move_to.field-0 false b c.if-not-branch.true c.in_ok-move_to.ensures.meets)
-    (ap (λ k. record (now_of b p) { left = k })
-    (ap (λ (x : Budget). x.nested) c.pay_for.ensures.left ∙ ap (λ (x : Budget). x.nested) c.pay.ensures.left))
+    done_refused (nested c.args.depth c.args.substitutions.now) c.args.lookup_record.now (match_of c.args.matched.now) c.args.buffer.now
+    c.args.progress.now c.in-Some.place c.both_len-before.result (sym c.place.ensures ∙ c.in-Some.is) c.both_len-before.ensures.is
+    (omega (arith, c.if-place-before.false)) c.in_ok-move_to.field-0 c.move_to.new.self c.pay_for.new.self.nested
+    c.in_ok-move_to.ensures.meets
+    (ap (λ (x : Budget). x.nested) c.pay_for.ensures.left ∙ ap (λ (x : Budget). x.nested) c.pay.ensures.left) c.if-not-branch.true
 
 pub apply_record-follow-requires-clause-number : goal.apply_record-follow-requires-clause-number
 apply_record-follow-requires-clause-number t c =
@@ -130,66 +121,34 @@ apply_record-follow-requires-clause-number t c =
 
 pub apply_record-returns-in-Passed-clause-done : goal.apply_record-returns-in-Passed-clause-done
 apply_record-returns-in-Passed-clause-done t c = λ steps.
-    let s = c.args.buffer.now in
-    let p = c.args.progress.now in
-    let r = c.args.lookup_record.now in
-    let m = match_of c.args.matched.now in
-    let b = c.move_to.new.self in
-    let mid = now_of c.apply_other.new.buffer c.apply_other.new.progress in
-    let at : Now = record { buffer = b; random = p.random_state; left = c.pay_for.new.self.nested } in
-    let is = sym c.place.ensures ∙ c.in-Some.is in
-    done_by (nested c.args.depth c.args.substitutions.now) r m s p c.in-Some.place is
-    (there r m s c.in-Some.place c.both_len-before.result is c.both_len-before.ensures.is (omega (arith, c.if-place-before.false)))
-    b at c.both_len-before.result Passed mid On m mid
-    (given (move_to c.in-Some.place s) c.in_ok-move_to.field-0 true b c.if-not-branch.false c.in_ok-move_to.ensures.meets)
-    (ap (λ k. record (now_of b p) { left = k })
-    (ap (λ (x : Budget). x.nested) c.pay_for.ensures.left ∙ ap (λ (x : Budget). x.nested) c.pay.ensures.left))
-    c.both_len-before.ensures.is
-    (subst (λ (tried : Step). nested c.args.depth c.args.substitutions.now r.lookup at tried mid) c.in-Passed.is
-    (c.in_ok-apply_other.ensures.applied steps))
-    (refl, refl, refl)
+    done_by (nested c.args.depth c.args.substitutions.now) c.args.lookup_record.now (match_of c.args.matched.now) c.args.buffer.now
+    c.args.progress.now c.in-Some.place c.both_len-before.result (sym c.place.ensures ∙ c.in-Some.is) c.both_len-before.ensures.is
+    (omega (arith, c.if-place-before.false)) c.in_ok-move_to.field-0 c.move_to.new.self c.pay_for.new.self.nested
+    c.in_ok-move_to.ensures.meets
+    (ap (λ (x : Budget). x.nested) c.pay_for.ensures.left ∙ ap (λ (x : Budget). x.nested) c.pay.ensures.left)
+    _ Passed (now_of c.apply_other.new.buffer c.apply_other.new.progress) On (match_of c.args.matched.now) _
+    c.if-not-branch.false (c.in_ok-apply_other.ensures.applied steps) c.in-Passed.is (refl, refl, refl)
 
 pub apply_record-returns-in-Refused-clause-done : goal.apply_record-returns-in-Refused-clause-done
 apply_record-returns-in-Refused-clause-done t c = λ steps.
-    let s = c.args.buffer.now in
-    let p = c.args.progress.now in
-    let r = c.args.lookup_record.now in
-    let m = match_of c.args.matched.now in
-    let b = c.move_to.new.self in
-    let mid = now_of c.apply_other.new.buffer c.apply_other.new.progress in
-    let at : Now = record { buffer = b; random = p.random_state; left = c.pay_for.new.self.nested } in
-    let is = sym c.place.ensures ∙ c.in-Some.is in
-    done_by (nested c.args.depth c.args.substitutions.now) r m s p c.in-Some.place is
-    (there r m s c.in-Some.place c.both_len-before.result is c.both_len-before.ensures.is (omega (arith, c.if-place-before.false)))
-    b at c.both_len-before.result step.Refused mid Refused m mid
-    (given (move_to c.in-Some.place s) c.in_ok-move_to.field-0 true b c.if-not-branch.false c.in_ok-move_to.ensures.meets)
-    (ap (λ k. record (now_of b p) { left = k })
-    (ap (λ (x : Budget). x.nested) c.pay_for.ensures.left ∙ ap (λ (x : Budget). x.nested) c.pay.ensures.left))
-    c.both_len-before.ensures.is
-    (subst (λ (tried : Step). nested c.args.depth c.args.substitutions.now r.lookup at tried mid) c.in-Refused.is
-    (c.in_ok-apply_other.ensures.applied steps))
-    (refl, refl, refl)
+    done_by (nested c.args.depth c.args.substitutions.now) c.args.lookup_record.now (match_of c.args.matched.now) c.args.buffer.now
+    c.args.progress.now c.in-Some.place c.both_len-before.result (sym c.place.ensures ∙ c.in-Some.is) c.both_len-before.ensures.is
+    (omega (arith, c.if-place-before.false)) c.in_ok-move_to.field-0 c.move_to.new.self c.pay_for.new.self.nested
+    c.in_ok-move_to.ensures.meets
+    (ap (λ (x : Budget). x.nested) c.pay_for.ensures.left ∙ ap (λ (x : Budget). x.nested) c.pay.ensures.left)
+    _ step.Refused (now_of c.apply_other.new.buffer c.apply_other.new.progress) Refused (match_of c.args.matched.now) _
+    c.if-not-branch.false (c.in_ok-apply_other.ensures.applied steps) c.in-Refused.is (refl, refl, refl)
 
 pub apply_record-returns-in-Applied-clause-done : goal.apply_record-returns-in-Applied-clause-done
 apply_record-returns-in-Applied-clause-done t c = λ steps.
-    let s = c.args.buffer.now in
-    let p = c.args.progress.now in
-    let r = c.args.lookup_record.now in
-    let m = match_of c.args.matched.now in
-    let b = c.move_to.new.self in
-    let mid = now_of c.apply_other.new.buffer c.apply_other.new.progress in
-    let at : Now = record { buffer = b; random = p.random_state; left = c.pay_for.new.self.nested } in
-    let is = sym c.place.ensures ∙ c.in-Some.is in
-    done_by (nested c.args.depth c.args.substitutions.now) r m s p c.in-Some.place is
-    (there r m s c.in-Some.place c.both_len-before.result is c.both_len-before.ensures.is (omega (arith, c.if-place-before.false)))
-    b at c.both_len-before.result Applied mid c.follow.result (match_of c.follow.new.matched)
-    (now_of c.follow.new.buffer c.apply_other.new.progress)
-    (given (move_to c.in-Some.place s) c.in_ok-move_to.field-0 true b c.if-not-branch.false c.in_ok-move_to.ensures.meets)
-    (ap (λ k. record (now_of b p) { left = k })
-    (ap (λ (x : Budget). x.nested) c.pay_for.ensures.left ∙ ap (λ (x : Budget). x.nested) c.pay.ensures.left))
-    c.both_len-before.ensures.is
-    (subst (λ (tried : Step). nested c.args.depth c.args.substitutions.now r.lookup at tried mid) c.in-Applied.is
-    (c.in_ok-apply_other.ensures.applied steps)) (
+    done_by (nested c.args.depth c.args.substitutions.now) c.args.lookup_record.now (match_of c.args.matched.now) c.args.buffer.now
+    c.args.progress.now c.in-Some.place c.both_len-before.result (sym c.place.ensures ∙ c.in-Some.is) c.both_len-before.ensures.is
+    (omega (arith, c.if-place-before.false)) c.in_ok-move_to.field-0 c.move_to.new.self c.pay_for.new.self.nested
+    c.in_ok-move_to.ensures.meets
+    (ap (λ (x : Budget). x.nested) c.pay_for.ensures.left ∙ ap (λ (x : Budget). x.nested) c.pay.ensures.left)
+    _ Applied (now_of c.apply_other.new.buffer c.apply_other.new.progress) c.follow.result (match_of c.follow.new.matched)
+    (now_of c.follow.new.buffer c.apply_other.new.progress) c.if-not-branch.false
+    (c.in_ok-apply_other.ensures.applied steps) c.in-Applied.is (
       c.follow.ensures.turn,
       c.follow.ensures.follows,
       ap (λ (x : State). now_of x c.apply_other.new.progress) c.follow.ensures.is,
@@ -197,43 +156,33 @@ apply_record-returns-in-Applied-clause-done t c = λ steps.
 
 pub apply_fit-returns-in-Refused-clause-done : goal.apply_fit-returns-in-Refused-clause-done
 apply_fit-returns-in-Refused-clause-done t c = λ steps.
-    let applies = nested c.args.depth c.args.substitutions.now in
-    let r = c.in-Some.lookup_record in
-    let m = match_of c.loop-index.matched in
-    let n = match_of c.apply_record.new.matched in
-    let old = now_of c.loop-index.buffer c.loop-index.progress in
     let mid = now_of c.apply_record.new.buffer c.apply_record.new.progress in
     c.loop-index.invariant.rest (omega (arith, steps, c.apply_record.ensures.spent.1)) false mid
-    (left_refused applies c.args.fit.now.records.now c.loop-index.index c.args.fit.now.record_count r m old n mid false mid
-    (omega (arith, c.loop-index-test.true, c.from-index-end.ensures))
-    (sym (c.record-found.ensures (omega arith)) ∙ c.in-Some.is)
-    (subst (λ (turn : Turn). IsRecordDone applies r m old turn n mid) c.in-Refused.is (c.in_ok-apply_record.ensures.done steps))
-    refl refl)
+    (left_refused (nested c.args.depth c.args.substitutions.now) c.args.fit.now.records.now c.loop-index.index
+    c.args.fit.now.record_count c.in-Some.lookup_record (match_of c.loop-index.matched)
+    (now_of c.loop-index.buffer c.loop-index.progress) (match_of c.apply_record.new.matched) mid false mid
+    (omega (arith, c.loop-index-test.true, c.from-index-end.ensures)) (sym (c.record-found.ensures (omega arith)) ∙ c.in-Some.is)
+    _ (c.in_ok-apply_record.ensures.done steps) c.in-Refused.is refl refl)
 
 pub apply_fit-loop-index-preserved : goal.apply_fit-loop-index-preserved
-apply_fit-loop-index-preserved t c =
-    let applies = nested c.args.depth c.args.substitutions.now in
-    let r = c.in-Some.lookup_record in
-    let m = match_of c.loop-index.matched in
-    let n = match_of c.apply_record.new.matched in
-    let old = now_of c.loop-index.buffer c.loop-index.progress in
-    let mid = now_of c.apply_record.new.buffer c.apply_record.new.progress in
-    record {
-      opened = c.in_ok-apply_record.ensures.left;
-      keeps = keeps_then c.args.buffer.now c.loop-index.buffer c.apply_record.new.buffer c.loop-index.invariant.keeps
-          c.apply_record.ensures.keeps;
-      spent = (
-        omega (arith, c.loop-index.invariant.spent.0, c.apply_record.ensures.spent.0),
-        omega (arith, c.loop-index.invariant.spent.1, c.apply_record.ensures.spent.1),
-      );
-      rest = λ steps done new left.
-          c.loop-index.invariant.rest (omega (arith, steps, c.apply_record.ensures.spent.1)) done new
-          (left_next applies c.args.fit.now.records.now c.loop-index.index c.args.fit.now.record_count r m old n mid done new
-          (omega (arith, c.loop-index-test.true, c.from-index-end.ensures))
-          (sym (c.record-found.ensures (omega arith)) ∙ c.in-Some.is)
-          (subst (λ (turn : Turn). IsRecordDone applies r m old turn n mid) c.in-On.is (c.in_ok-apply_record.ensures.done steps))
-          left);
-    }
+apply_fit-loop-index-preserved t c = record {
+  opened = c.in_ok-apply_record.ensures.left;
+  keeps = keeps_then c.args.buffer.now c.loop-index.buffer c.apply_record.new.buffer c.loop-index.invariant.keeps
+      c.apply_record.ensures.keeps;
+  spent = (
+    omega (arith, c.loop-index.invariant.spent.0, c.apply_record.ensures.spent.0),
+    omega (arith, c.loop-index.invariant.spent.1, c.apply_record.ensures.spent.1),
+  );
+  rest = λ steps done new left.
+      let mid = now_of c.apply_record.new.buffer c.apply_record.new.progress in
+      c.loop-index.invariant.rest (omega (arith, steps, c.apply_record.ensures.spent.1)) done new
+      (left_next (nested c.args.depth c.args.substitutions.now) c.args.fit.now.records.now c.loop-index.index
+      c.args.fit.now.record_count c.in-Some.lookup_record (match_of c.loop-index.matched)
+      (now_of c.loop-index.buffer c.loop-index.progress) (match_of c.apply_record.new.matched) mid done new
+      (omega (arith, c.loop-index-test.true, c.from-index-end.ensures))
+      (sym (c.record-found.ensures (omega arith)) ∙ c.in-Some.is)
+      _ (c.in_ok-apply_record.ensures.done steps) c.in-On.is left);
+}
 
 pub apply_fit-returns-clause-done : goal.apply_fit-returns-clause-done
 apply_fit-returns-clause-done t c = λ steps.
@@ -268,8 +217,7 @@ apply_fit-returns-clause-done t c = λ steps.
           (left_enough applies table k fit.record_count r m old n mid done new
           (omega (arith, w.loop-index-test.true, c.from-index-end.ensures))
           (sym (w.record-found.ensures (omega (arith, w.loop-index-test.true))) ∙ w.in-Some.is)
-          (subst (λ (turn : Turn). IsRecordDone applies r m old turn n mid) w.in-Enough.is
-          (w.in_ok-apply_record.ensures.done left)) behind))
+          _ (w.in_ok-apply_record.ensures.done left) w.in-Enough.is behind))
     ] in
     fit_ended applies fit c.args.progress.now.search.places.items c.args.buffer.now c.loop-index-test.buffer c.args.progress.now
     c.loop-index-test.progress (match_of c.loop-index-test.matched) c.go_to.result c.go_to.new.buffer (all steps)

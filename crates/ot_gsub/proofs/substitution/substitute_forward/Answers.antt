@@ -1,133 +1,66 @@
-use Rattle.std.proofs.Common.{◌≤◌, ◌+◌, Ok, Bool, false, length, length-drop, arith, ap, sym, subst, refl, ◌∙◌}
+use Rattle.std.proofs.Common.{Ok, Bool, false, ap, sym, subst, refl, ◌∙◌}
 use Rattle.shaping_buffer.specs.State.{State}
 use Rattle.shaping_buffer.specs.Step.{Meets, sync}
 use Rattle.ot_gsub.specs.Nested.{now_of}
-use Rattle.ot_gsub.specs.Runs.{AreGlyphsDone, opened}
-use Rattle.ot_gsub.specs.Singles.{IsForNext, IsLevel, moved, substituted}
 use Rattle.ot_gsub.proofs.ChangesLemmas.{error_is_no_answer, glyph_numbers-opened_at, glyph_numbers-sync, tells_passed, tells_then}
-use Rattle.ot_gsub.proofs.RunsLemmas.{forward_stopped, forward_through, opened_done, way_ended, way_failed, way_refused}
-use Rattle.ot_gsub.proofs.SinglesLemmas.{err_is_no_answer, false_is_no_answer, len_closed, opened_level, opened_next, opened_single_at, synced}
+use Rattle.ot_gsub.proofs.ForwardLemmas.{forward_ended, forward_failed, forward_refused}
+use Rattle.ot_gsub.proofs.SinglesLemmas.{err_is_no_answer, false_is_no_answer, rest_moved, synced}
 use Rattle.ot_gsub.proofs.substitution.substitute_forward.Goals as goal
 
 pub returns-in_err-substitute_rest-clause-singles : goal.returns-in_err-substitute_rest-clause-singles
 returns-in_err-substitute_rest-clause-singles c = λ steps good single.
-    let s = c.args.buffer.now in
-    let subs = c.args.substitutions.now in
-    let lookup = c.args.lookup.now in
-    let first = c.args.first in
-    let b = c.open_at.new.buffer in
-    let at = c.open_at.ensures.opened.1 in
-    let long : length s.input ≤ s.max_len = omega (arith, c.len.ensures.within, len_closed s c.requires.closed) in
-    let done = c.substitute_rest.ensures.singles steps (opened_single_at subs lookup first s b at single)
-    (subst IsLevel (sym at) (opened_level subs lookup first s c.requires.first long))
-    (subst (IsForNext subs lookup) (sym at) (opened_next subs lookup first s c.requires.at)) in
+    let done = rest_moved c.args.substitutions.now c.args.lookup.now c.args.first c.args.buffer.now c.open_at.new.buffer
+    c.substitute_rest.result c.substitute_rest.new.buffer c.open_at.ensures.opened.1 c.requires.closed c.len.ensures.within
+    c.requires.first c.requires.at single (c.substitute_rest.ensures.singles steps) in
     absurd (err_is_no_answer c.substitute_rest.result _ done.0 c.in_err-substitute_rest.was)
 
 pub returns-then-not-branch-2-clause-singles : goal.returns-then-not-branch-2-clause-singles
 returns-then-not-branch-2-clause-singles c = λ steps good single.
-    let s = c.args.buffer.now in
-    let subs = c.args.substitutions.now in
-    let lookup = c.args.lookup.now in
-    let first = c.args.first in
-    let b = c.open_at.new.buffer in
-    let at = c.open_at.ensures.opened.1 in
-    let long : length s.input ≤ s.max_len = omega (arith, c.len.ensures.within, len_closed s c.requires.closed) in
-    let done = c.substitute_rest.ensures.singles steps (opened_single_at subs lookup first s b at single)
-    (subst IsLevel (sym at) (opened_level subs lookup first s c.requires.first long))
-    (subst (IsForNext subs lookup) (sym at) (opened_next subs lookup first s c.requires.at)) in
+    let done = rest_moved c.args.substitutions.now c.args.lookup.now c.args.first c.args.buffer.now c.open_at.new.buffer
+    c.substitute_rest.result c.substitute_rest.new.buffer c.open_at.ensures.opened.1 c.requires.closed c.len.ensures.within
+    c.requires.first c.requires.at single (c.substitute_rest.ensures.singles steps) in
     absurd (false_is_no_answer c.substitute_rest.result done.0
     (c.in_ok-substitute_rest.was ∙ ap (λ (x : Bool). Ok x) c.if-not-branch-2.true))
 
 pub returns-clause-singles : goal.returns-clause-singles
 returns-clause-singles c = λ steps good single.
-    let s = c.args.buffer.now in
-    let subs = c.args.substitutions.now in
-    let lookup = c.args.lookup.now in
-    let first = c.args.first in
-    let b = c.open_at.new.buffer in
-    let at = c.open_at.ensures.opened.1 in
-    let long : length s.input ≤ s.max_len = omega (arith, c.len.ensures.within, len_closed s c.requires.closed) in
-    let done = c.substitute_rest.ensures.singles steps (opened_single_at subs lookup first s b at single)
-    (subst IsLevel (sym at) (opened_level subs lookup first s c.requires.first long))
-    (subst (IsForNext subs lookup) (sym at) (opened_next subs lookup first s c.requires.at)) in
-    let f = substituted subs lookup in
-    let end = c.fail_if_spent.ensures.same steps ∙ done.1 ∙ ap (λ (o : State). moved f (length o.input) o) at in
-    synced subs lookup first s c.fail_if_spent.new.buffer c.sync.new.self c.sync.result c.requires.passed c.requires.closed
+    let done = rest_moved c.args.substitutions.now c.args.lookup.now c.args.first c.args.buffer.now c.open_at.new.buffer
+    c.substitute_rest.result c.substitute_rest.new.buffer c.open_at.ensures.opened.1 c.requires.closed c.len.ensures.within
+    c.requires.first c.requires.at single (c.substitute_rest.ensures.singles steps) in
+    let end = c.fail_if_spent.ensures.same steps ∙ done.1 in
+    synced c.args.substitutions.now c.args.lookup.now c.args.first c.args.buffer.now c.fail_if_spent.new.buffer c.sync.new.self
+    c.sync.result c.requires.passed c.requires.closed
     (sym c.have_separate_output.ensures.is ∙ c.have_separate_output.ensures.closed c.requires.closed)
     (c.out_len.ensures.closed c.requires.closed) good end
     (c.sync.ensures.in_place (ap (λ (o : State). o.have_separate_output) end)) c.sync.ensures.meets
 
 pub returns-in_err-substitute_rest-clause-run : goal.returns-in_err-substitute_rest-clause-run
 returns-in_err-substitute_rest-clause-run c = λ steps.
-    let s = c.args.buffer.now in
-    let p = c.args.progress.now in
-    let subs = c.args.substitutions.now in
-    let lookup = c.args.lookup.now in
-    let first = c.args.first in
-    let b = c.open_at.new.buffer in
-    let at = c.open_at.ensures.opened.1 in
-    let long : length s.input ≤ s.max_len = omega (arith, c.len.ensures.within, len_closed s c.requires.closed) in
-    let old = now_of s p in
-    let mid = now_of b p in
-    let before : AreGlyphsDone subs lookup first (opened old) mid =
-    subst (λ (t : State). AreGlyphsDone subs lookup first (opened old) (now_of t p)) (sym at)
-    (opened_done subs lookup first old c.requires.first long c.requires.passed) in
     let end = now_of c.substitute_rest.new.buffer c.substitute_rest.new.progress in
-    let rest = c.substitute_rest.ensures.rest steps
-    (subst (IsForNext subs lookup) (sym at) (opened_next subs lookup first s c.requires.at)) in
-    forward_stopped subs lookup old first mid c.from_residual-in_err-substitute_rest.result end before
-    (way_failed subs lookup mid end c.substitute_rest.result _ c.from_residual-in_err-substitute_rest.result c.in_err-substitute_rest.was
-    c.from_residual-in_err-substitute_rest.ensures.0 rest)
+    forward_failed c.args.substitutions.now c.args.lookup.now (now_of c.args.buffer.now c.args.progress.now) c.args.first
+    c.open_at.new.buffer c.open_at.ensures.opened.1 c.requires.closed c.len.ensures.within c.requires.first c.requires.passed
+    c.requires.at c.substitute_rest.result end (c.substitute_rest.ensures.rest steps) _
+    c.from_residual-in_err-substitute_rest.result end c.in_err-substitute_rest.was
+    c.from_residual-in_err-substitute_rest.ensures.0
 
 pub returns-then-not-branch-2-clause-run : goal.returns-then-not-branch-2-clause-run
 returns-then-not-branch-2-clause-run c = λ steps.
-    let s = c.args.buffer.now in
-    let p = c.args.progress.now in
-    let subs = c.args.substitutions.now in
-    let lookup = c.args.lookup.now in
-    let first = c.args.first in
-    let b = c.open_at.new.buffer in
-    let at = c.open_at.ensures.opened.1 in
-    let long : length s.input ≤ s.max_len = omega (arith, c.len.ensures.within, len_closed s c.requires.closed) in
-    let old = now_of s p in
-    let mid = now_of b p in
-    let before : AreGlyphsDone subs lookup first (opened old) mid =
-    subst (λ (t : State). AreGlyphsDone subs lookup first (opened old) (now_of t p)) (sym at)
-    (opened_done subs lookup first old c.requires.first long c.requires.passed) in
     let end = now_of c.substitute_rest.new.buffer c.substitute_rest.new.progress in
-    let rest = c.substitute_rest.ensures.rest steps
-    (subst (IsForNext subs lookup) (sym at) (opened_next subs lookup first s c.requires.at)) in
-    forward_stopped subs lookup old first mid (Ok false) end before
-    (way_refused subs lookup mid end c.substitute_rest.result
-    (c.in_ok-substitute_rest.was ∙ ap (λ (x : Bool). Ok x) c.if-not-branch-2.true) rest)
+    forward_refused c.args.substitutions.now c.args.lookup.now (now_of c.args.buffer.now c.args.progress.now) c.args.first
+    c.open_at.new.buffer c.open_at.ensures.opened.1 c.requires.closed c.len.ensures.within c.requires.first c.requires.passed
+    c.requires.at c.substitute_rest.result end (c.substitute_rest.ensures.rest steps) end
+    (c.in_ok-substitute_rest.was ∙ ap (λ (x : Bool). Ok x) c.if-not-branch-2.true)
 
 pub returns-clause-run : goal.returns-clause-run
 returns-clause-run c = λ steps.
-    let s = c.args.buffer.now in
-    let p = c.args.progress.now in
-    let subs = c.args.substitutions.now in
-    let lookup = c.args.lookup.now in
-    let first = c.args.first in
-    let b = c.open_at.new.buffer in
-    let at = c.open_at.ensures.opened.1 in
-    let long : length s.input ≤ s.max_len = omega (arith, c.len.ensures.within, len_closed s c.requires.closed) in
-    let old = now_of s p in
-    let mid = now_of b p in
-    let before : AreGlyphsDone subs lookup first (opened old) mid =
-    subst (λ (t : State). AreGlyphsDone subs lookup first (opened old) (now_of t p)) (sym at)
-    (opened_done subs lookup first old c.requires.first long c.requires.passed) in
     let end = now_of c.substitute_rest.new.buffer c.substitute_rest.new.progress in
-    let rest = c.substitute_rest.ensures.rest steps
-    (subst (IsForNext subs lookup) (sym at) (opened_next subs lookup first s c.requires.at)) in
-    let q = c.substitute_rest.new.progress in
-    let e = c.substitute_rest.new.buffer in
-    let new = c.sync.new.self in
-    let all : length s.input ≤ first + length b.input =
-    omega (arith, ap (λ (t : State). length t.input) at, length-drop first s.input) in
-    forward_through subs lookup old first rest.least mid end c.sync.result (now_of new q) before
-    (way_ended subs lookup mid end c.substitute_rest.result
-    (c.in_ok-substitute_rest.was ∙ ap (λ (x : Bool). Ok x) c.if-not-branch-2.false) rest) all rest.all
-    (subst (λ (t : State). Meets (sync t) t c.sync.result new) (c.fail_if_spent.ensures.same steps) c.sync.ensures.meets) refl
+    forward_ended c.args.substitutions.now c.args.lookup.now (now_of c.args.buffer.now c.args.progress.now) c.args.first
+    c.open_at.new.buffer c.open_at.ensures.opened.1 c.requires.closed c.len.ensures.within c.requires.first c.requires.passed
+    c.requires.at c.substitute_rest.result end (c.substitute_rest.ensures.rest steps) c.sync.result
+    (now_of c.sync.new.self c.substitute_rest.new.progress)
+    (c.in_ok-substitute_rest.was ∙ ap (λ (x : Bool). Ok x) c.if-not-branch-2.false)
+    (subst (λ (t : State). Meets (sync t) t c.sync.result c.sync.new.self) (c.fail_if_spent.ensures.same steps)
+    c.sync.ensures.meets) refl
 
 pub returns-in_err-open_at-clause-tells : goal.returns-in_err-open_at-clause-tells
 returns-in_err-open_at-clause-tells c = λ is.

@@ -15,7 +15,7 @@ loop-turn-init c =
     let subs = c.args.substitutions.now in
     let lookup = c.args.lookup.now in
     record {
-      opened = c.requires.opened;
+      opened = c.requires;
       keeps = keeps_none s;
       spent = (omega arith, omega arith);
       tells = tells_none s c.args.progress.now.has_changed;
@@ -88,7 +88,7 @@ returns-then-not-branch-clause-rest c = λ steps next.
 pub returns-clause-rest : goal.returns-clause-rest
 returns-clause-rest c = λ steps next.
     let s = c.args.buffer.now in
-    let all : len s ≡ s.idx + length s.input = cond-true _ _ _ c.requires.opened in
+    let all : len s ≡ s.idx + length s.input = cond-true _ _ _ c.requires in
     rest_ended c.args.substitutions.now c.args.lookup.now c.loop-turn._turn (now_of s c.args.progress.now)
     (now_of c.loop-turn.buffer c.loop-turn.progress) (c.loop-turn.invariant.done steps next)
     (inr (omega (arith, c.loop-turn-test.false, c.len-count.ensures.len, all)))
