@@ -1,5 +1,6 @@
 -- What stages of substitution keep of the clusters, and how these run once they are put in order behind them.
-use Rattle.std.proofs.Common.{◌≡◌, ℕ, ◌<◌, Bool, true, false, List, length, get_or, refl, ap, ◌∙◌, arith}
+use Rattle.std.proofs.Common.{◌≡◌, ℕ, ◌<◌, Bool, true, false, List, length, get_or, refl, sym, ap, subst, ◌∙◌, inl, inr, arith}
+use Rattle.std.proofs.lemmas.Bool.{cases_Bool}
 use Rattle.glyph_lists.specs.Clusters.{NeverFalls, NeverRises, clusters, occurs}
 use Rattle.glyph_lists.specs.KeptClusters.{Runs}
 use Rattle.glyph_lists.proofs.ClustersLemmas.{occurs_at, occurs_place}
@@ -14,7 +15,8 @@ use Rattle.script_syllables.proofs.NumbersLemmas.{numbers_none, numbers_then, nu
 use Rattle.script_shapers.specs.declared.syllables.SyllablePlan.{SyllablePlan}
 use Rattle.ot_apply.specs.declared.cluster_order.ClusterCourse.{ClusterCourse}
 use Rattle.ot_apply.specs.declared.cluster_order.ClusterCourse.TheVariants.{Rising, Falling, Neither}
-use Rattle.ot_apply.specs.ClusterOrder.{Takes, IsCourseOf, KeepsStage}
+use Rattle.ot_plan.specs.Shapers.{orders_syllables}
+use Rattle.ot_apply.specs.ClusterOrder.{Takes, IsCourseOf, KeepsStage, put_in_order}
 
 -- ---- numbers that are kept
 
@@ -34,6 +36,11 @@ stage_then plan s t u a b = record {
 
 pub stage_of_keeps : (plan : SyllablePlan) (s t : State) → KeepsClusters s t → KeepsStage plan s t
 stage_of_keeps plan s t a = record { numbers = numbers_of_keeps s t a; clusters = λ off. a }
+
+-- what lookups do after a stage, joined syllables being marked before them
+pub stage_run : (plan : SyllablePlan) (s t u v : State) → KeepsStage plan s t → KeepsClusters t u → KeepsClusters u v
+    → KeepsStage plan s v
+stage_run plan s t u v before marks runs = stage_then plan s t v before (stage_of_keeps plan t v (keeps_then t u v marks runs))
 
 -- what search closes by
 pub ruleset stages = (stage_then, stage_none, stage_of_keeps, kept)
@@ -74,6 +81,17 @@ restored course s t u was a b takes =
       };
       least = all.least;
     }
+
+-- whether the glyphs of syllables were put in another order before or not
+pub stages_restored : (plan : SyllablePlan) (course : ClusterCourse) (s t u : State)
+    → (orders_syllables plan ≡ true → any_order s ≡ false → IsCourseOf course (clusters (both s)))
+    → (orders_syllables plan ≡ false → course ≡ Neither) → KeepsStage plan s t → u ≡ put_in_order course t → KeepsNumbers t u
+    → (any_order t ≡ false → Takes course (clusters (both u))) → KeepsClusters s u
+stages_restored plan course s t u was none a is b takes = elim (cases_Bool (orders_syllables plan)) [
+  | inl on ↦ restored course s t u (was on) a.numbers b takes
+  | inr off ↦
+      subst (KeepsClusters s) (sym (is ∙ ap (λ (c : ClusterCourse). put_in_order c t) (none off))) (a.clusters off)
+]
 
 -- a list that is turned, put in order and turned back
 pub turned_back : (s t u v : State) → TurnsClusters s t → KeepsNumbers t u → NeverFalls (clusters (both u))

@@ -1,6 +1,8 @@
 -- The lookups of a plan over a text, stage by stage (HarfBuzz, `hb_ot_map_t::apply`). Each is run over the glyphs as the one before it
 -- left them: what a digest lets pass by is what would have come of it.
 use Rattle.std.specs.Prelude.{◌≡◌, ◌≤◌, ◌≤ℤ◌, ◌&&◌, ℕ, pos, Bool, true, false, List, [], ◌∷◌, Ok, length, nat_le, slice_get, slice_range, if◌then◌else◌}
+use Rattle.glyph_digests.specs.Digest.{HasGlyphs}
+use Rattle.glyph_digests.specs.declared.digest.Digest.{Digest}
 use Rattle.font_face.specs.declared.face.Face.{Face}
 use Rattle.ot_layout.specs.declared.skipping_iterator.LookupOptions.{LookupOptions}
 use Rattle.ot_map.specs.declared.plan.Pause.TheVariants.{Nothing}
@@ -39,6 +41,11 @@ pub record IsPlannedRun (face : Face) (planned : PlannedLookup) (old new : Now) 
   pub gdef : substitutions.gdef.now ≡ face.gdef
   pub options : substitutions.options ≡ options_of planned
   pub run : IsRun substitutions (slice_get substitutions.list.now.lookups.items planned.index) old (Ok true) new
+
+-- What is known of the glyphs before a lookup: a digest has those of the buffer, and no change is told that it has not seen.
+pub record HasSeen (glyphs : Digest) (told : Bool) (s : State) : Type 0 where
+  pub met : HasGlyphs glyphs s.input
+  pub unchanged : told ≡ false
 
 -- ---- one stage
 

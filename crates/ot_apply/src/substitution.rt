@@ -1,13 +1,15 @@
 //! The lookups that substitute glyphs, applied to a text stage by stage, and what the shaper of its script does between two stages.
 
 ghost use Rattle.std.specs.Prelude.{◌≡◌, ◌<◌, true, false, IfOk, None, Ok};
-ghost use Rattle.glyph_digests.specs.Digest.{HasGlyphs};
+ghost use Rattle.glyph_lists.specs.Clusters.{clusters};
 ghost use Rattle.ot_layout.specs.Budget.{IsNotMore};
 ghost use Rattle.ot_gsub.specs.Nested.{now_of};
+ghost use Rattle.shaping_buffer.specs.ClusterStep.{any_order, both};
 ghost use Rattle.shaping_buffer.specs.KeepsClusters.{KeepsClusters};
-ghost use Rattle.ot_apply.specs.ClusterOrder.{KeepsStage};
+ghost use Rattle.ot_plan.specs.Shapers.{orders_syllables};
+ghost use Rattle.ot_apply.specs.ClusterOrder.{IsCourseOf, KeepsStage};
 ghost use Rattle.ot_apply.specs.Stages as by_stage;
-ghost use Rattle.ot_apply.specs.Stages.{AreRuns, AreStagesDone, IsDoneByStages, IsPlannedRun, IsPutInOrder};
+ghost use Rattle.ot_apply.specs.Stages.{AreRuns, AreStagesDone, HasSeen, IsDoneByStages, IsPlannedRun};
 ghost use Rattle.shaping_passes.specs.Refusals.{IsRefusal};
 
 use crate::cluster_order::ClusterCourse;
@@ -49,10 +51,12 @@ pub fn substitute<F: FontFunctions, W: Watch>(
     if let Some(flags) = &plan.chain_flags {
         return substitute_by_morx(buffer, face, flags, plan.shape.apply_gpos);
     }
+    let course = course_of_syllables(buffer, plan);
     let mut progress = Progress::new(budget_of(buffer));
-    if !substitute_by_gsub(buffer, face, font, plan, &mut progress, watch)? {
+    if !apply_stages(buffer, face, font, plan, &mut progress, watch)? {
         return Ok(false);
     }
+    course.restore(buffer);
     fail_if_spent(buffer, &progress.search.budget);
     Ok(true)
 }
@@ -93,32 +97,18 @@ fn remove_deleted(buffer: &mut hb_buffer_t, removes: bool)
     }
 }
 
-/// Applies the lookups of `GSUB`, stage by stage, with what the shaper of the script does between them. `Ok(false)` where a call was
-/// refused for length.
-fn substitute_by_gsub<F: FontFunctions, W: Watch>(
-    buffer: &mut hb_buffer_t,
-    face: &Face,
-    font: &F,
-    plan: &TextPlan,
-    progress: &mut Progress,
-    watch: &mut W,
-) -> Result<bool, AllocError>
-    requires { buffer.old.have_output ≡ false }
-    ensures closed { IfOk result (λ done. done ≡ true → buffer.new.have_output ≡ false) }
-    ensures refusal { IsRefusal false result buffer.new }
-    ensures keeps { IfOk result (λ done. done ≡ true → KeepsClusters buffer.old buffer.new) }
-    ensures stages { result ≡ Ok true → 0 < progress.new.search.budget.steps
-        → IsPutInOrder face.now plan.now (now_of buffer.old progress.old) buffer.new }
+/// How the clusters of a text run, where the shaper of the script puts the glyphs of syllables in another order. Else none are to be
+/// put in order.
+fn course_of_syllables(buffer: &hb_buffer_t, plan: &TextPlan) -> ClusterCourse
+    requires { buffer.now.have_output ≡ false }
+    ensures ordered { orders_syllables plan.now.syllables ≡ true → any_order buffer.now ≡ false
+        → IsCourseOf result (clusters (both buffer.now)) }
+    ensures unordered { orders_syllables plan.now.syllables ≡ false → result ≡ ClusterCourse.Neither }
 {
     if !plan.orders_syllables() {
-        return apply_stages(buffer, face, font, plan, progress, watch);
+        return ClusterCourse::Neither;
     }
-    let course = ClusterCourse::of(buffer);
-    if !apply_stages(buffer, face, font, plan, progress, watch)? {
-        return Ok(false);
-    }
-    course.restore(buffer);
-    Ok(true)
+    ClusterCourse::of(buffer)
 }
 
 /// Applies the lookups of all stages, with what is done between them. `Ok(false)` where a call was refused for length.
@@ -181,12 +171,10 @@ fn apply_stage<W: Watch>(
     watch: &mut W,
 ) -> Result<bool, AllocError>
     requires closed { buffer.old.have_output ≡ false }
-    requires unchanged { progress.old.has_changed ≡ false }
-    requires met { HasGlyphs glyphs.old buffer.old.input }
+    requires seen { HasSeen glyphs.old progress.old.has_changed buffer.old }
     ensures runs { result ≡ Ok true → 0 < progress.new.search.budget.steps
         → AreRuns face.now lookups.now (now_of buffer.old progress.old) (now_of buffer.new progress.new) }
-    ensures met { result ≡ Ok true → HasGlyphs glyphs.new buffer.new.input }
-    ensures unchanged { result ≡ Ok true → progress.new.has_changed ≡ false }
+    ensures seen { result ≡ Ok true → HasSeen glyphs.new progress.new.has_changed buffer.new }
     ensures closed { IfOk result (λ done. done ≡ true → buffer.new.have_output ≡ false) }
     ensures spent { IsNotMore progress.old.search.budget progress.new.search.budget }
     ensures refusal { IsRefusal false result buffer.new }
@@ -213,12 +201,10 @@ fn apply_planned(
     progress: &mut Progress,
 ) -> Result<bool, AllocError>
     requires closed { buffer.old.have_output ≡ false }
-    requires unchanged { progress.old.has_changed ≡ false }
-    requires met { HasGlyphs glyphs.old buffer.old.input }
+    requires seen { HasSeen glyphs.old progress.old.has_changed buffer.old }
     ensures run { result ≡ Ok true → 0 < progress.new.search.budget.steps
         → IsPlannedRun face.now planned.now (now_of buffer.old progress.old) (now_of buffer.new progress.new) }
-    ensures met { result ≡ Ok true → HasGlyphs glyphs.new buffer.new.input }
-    ensures unchanged { result ≡ Ok true → progress.new.has_changed ≡ false }
+    ensures seen { result ≡ Ok true → HasSeen glyphs.new progress.new.has_changed buffer.new }
     ensures closed { IfOk result (λ done. done ≡ true → buffer.new.have_output ≡ false) }
     ensures spent { IsNotMore progress.old.search.budget progress.new.search.budget }
     ensures refusal { IsRefusal false result buffer.new }
@@ -312,42 +298,45 @@ fn apply_fallback(
         SUBSTITUTION_EXTENSION,
         &face.gdef,
     )?;
-    apply_each(
-        buffer,
-        &list,
-        &face.gdef,
-        fallback.masks.as_slice(),
-        progress,
-    )
+    let lookups = MaskedLookups {
+        list: &list,
+        gdef: &face.gdef,
+        masks: fallback.masks.as_slice(),
+    };
+    lookups.apply(buffer, progress)
 }
 
-/// Applies each lookup of a list to the glyphs that have its mask. `Ok(false)` where a call was refused for length.
-#[tactic(auto, using(shaping_buffer::proofs::ClosedKeepsLemmas::kept))]
-fn apply_each(
-    buffer: &mut hb_buffer_t,
-    list: &LookupList,
-    definitions: &Gdef,
-    masks: &[u32],
-    progress: &mut Progress,
-) -> Result<bool, AllocError>
-    requires { buffer.old.have_output ≡ false }
-    ensures closed { IfOk result (λ done. done ≡ true → buffer.new.have_output ≡ false) }
-    ensures spent { IsNotMore progress.old.search.budget progress.new.search.budget }
-    ensures refusal { IsRefusal false result buffer.new }
-    ensures keeps { KeepsClusters buffer.old buffer.new }
-{
-    for index in 0..masks.len() {
-        let substitutions = Substitutions {
-            list,
-            gdef: definitions,
-            options: options_of_fallback(masks[index]),
-        };
-        let index = u16::try_from(index).unwrap_or(0);
-        if !ot_gsub::substitute(buffer, &substitutions, index, progress)? {
-            return Ok(false);
+/// Lookups, each with the mask of the glyphs that it is applied to.
+#[derive(Clone, Copy)]
+struct MaskedLookups<'a, 'list, 'gdef> {
+    list: &'a LookupList<'list>,
+    gdef: &'a Gdef<'gdef>,
+    masks: &'a [u32],
+}
+
+impl MaskedLookups<'_, '_, '_> {
+    /// Applies each of them. `Ok(false)` where a call was refused for length.
+    #[tactic(auto, using(shaping_buffer::proofs::ClosedKeepsLemmas::kept))]
+    fn apply(&self, buffer: &mut hb_buffer_t, progress: &mut Progress) -> Result<bool, AllocError>
+        requires { buffer.old.have_output ≡ false }
+        ensures closed { IfOk result (λ done. done ≡ true → buffer.new.have_output ≡ false) }
+        ensures spent { IsNotMore progress.old.search.budget progress.new.search.budget }
+        ensures refusal { IsRefusal false result buffer.new }
+        ensures keeps { KeepsClusters buffer.old buffer.new }
+    {
+        for index in 0..self.masks.len() {
+            let substitutions = Substitutions {
+                list: self.list,
+                gdef: self.gdef,
+                options: options_of_fallback(self.masks[index]),
+            };
+            let index = u16::try_from(index).unwrap_or(0);
+            if !ot_gsub::substitute(buffer, &substitutions, index, progress)? {
+                return Ok(false);
+            }
         }
+        Ok(true)
     }
-    Ok(true)
 }
 
 /// How a lookup of the fallback is applied.

@@ -19,7 +19,7 @@ returns-then-not-may_apply-clause-run c = λ is steps.
       options = c.substitutions_of-substitutions.ensures.options;
       run = passed_by subs (slice_get subs.list.now.lookups.items c.args.planned.now.index) c.args.glyphs.now
           (now_of c.args.buffer.now c.args.progress.now)
-          (λ lookup there. c.may_apply.ensures lookup there c.if-not-may_apply.true) c.requires.met;
+          (λ lookup there. c.may_apply.ensures lookup there c.if-not-may_apply.true) c.requires.seen.met;
     }
 
 pub returns-clause-run : goal.returns-clause-run
@@ -42,12 +42,15 @@ returns-clause-run c = λ is steps.
     }
 
 -- where no change is told the glyphs have the same numbers as before
-pub returns-clause-met : goal.returns-clause-met
-returns-clause-met c = λ is.
+pub returns-clause-seen : goal.returns-clause-seen
+returns-clause-seen c = λ is.
     let was : c.substitute.result ≡ Ok true = c.in_ok-substitute.was ∙ ap (λ (d : Bool). Ok d) c.if-not-branch.false in
-    c.see_changes.ensures.met
-    (λ none. met_after c.args.glyphs.now c.args.buffer.now c.substitute.new.buffer (c.out_len.ensures.closed c.requires.closed)
-    ((c.substitute.ensures.tells was).same none) c.requires.met)
+    record {
+      met = c.see_changes.ensures.met
+          (λ none. met_after c.args.glyphs.now c.args.buffer.now c.substitute.new.buffer (c.out_len.ensures.closed c.requires.closed)
+          ((c.substitute.ensures.tells was).same none) c.requires.seen.met);
+      unchanged = c.see_changes.ensures.unchanged;
+    }
 
 pub returns-clause-spent : goal.returns-clause-spent
 returns-clause-spent c =

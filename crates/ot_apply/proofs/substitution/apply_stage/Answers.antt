@@ -9,8 +9,7 @@ loop-planned-init g c = record {
   closed = c.requires.closed;
   keeps = keeps_none c.args.buffer.now;
   spent = (omega arith, omega arith);
-  unchanged = c.requires.unchanged;
-  met = c.requires.met;
+  seen = c.requires.seen;
   rest = λ steps new done. done;
 }
 
@@ -28,8 +27,7 @@ loop-planned-preserved g c =
         omega (arith, c.loop-planned.invariant.spent.0, c.apply_planned.ensures.spent.0),
         omega (arith, c.loop-planned.invariant.spent.1, c.apply_planned.ensures.spent.1),
       );
-      unchanged = c.apply_planned.ensures.unchanged was;
-      met = c.apply_planned.ensures.met was;
+      seen = c.apply_planned.ensures.seen was;
       rest = λ steps end done.
           let before : 0 < p.search.budget.steps = omega (arith, steps, c.apply_planned.ensures.spent.1) in
           c.loop-planned.invariant.rest before end

@@ -1,9 +1,8 @@
 use Rattle.std.proofs.Common.{◌≡◌, ◌<◌, drop, false}
-use Rattle.glyph_digests.specs.Digest.{HasGlyphs}
 use Rattle.ot_layout.specs.Budget.{IsNotMore}
 use Rattle.ot_gsub.specs.Nested.{Now, now_of}
 use Rattle.shaping_buffer.specs.KeepsClusters.{KeepsClusters}
-use Rattle.ot_apply.specs.Stages.{AreRuns}
+use Rattle.ot_apply.specs.Stages.{AreRuns, HasSeen}
 use Rattle.ot_apply.proofs.substitution.apply_stage.Given as goal
 
 -- where the lookups that are left are run, all are
@@ -12,8 +11,7 @@ invariant-loop-planned g l = record {
   closed : l.buffer.have_output ≡ false;
   keeps : KeepsClusters l.fn.buffer l.buffer;
   spent : IsNotMore l.fn.progress.search.budget l.progress.search.budget;
-  unchanged : l.progress.has_changed ≡ false;
-  met : HasGlyphs l.glyphs l.buffer.input;
+  seen : HasSeen l.glyphs l.progress.has_changed l.buffer;
   rest : 0 < l.progress.search.budget.steps → (new : Now)
       → AreRuns l.face (drop l.planned-index l.lookups) (now_of l.buffer l.progress) new
       → AreRuns l.face l.lookups (now_of l.fn.buffer l.fn.progress) new;

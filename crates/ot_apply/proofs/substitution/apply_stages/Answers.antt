@@ -7,48 +7,32 @@ use Rattle.ot_gsub.specs.Nested.{now_of}
 use Rattle.ot_gsub.specs.declared.substitution.Progress.{Progress}
 use Rattle.ot_apply.specs.Stages.{AreStagesDone}
 use Rattle.ot_apply.proofs.RunLemmas.{now_of-same, stages_next, stages_none}
-use Rattle.ot_apply.proofs.StageLemmas.{stage_none, stage_then, stage_of_keeps}
+use Rattle.ot_apply.proofs.StageLemmas.{stage_none, stage_run, stage_then}
 use Rattle.ot_apply.proofs.substitution.apply_stages.Goals as goal
 
 pub returns-in_err-apply_stage-clause-keeps : goal.returns-in_err-apply_stage-clause-keeps
 returns-in_err-apply_stage-clause-keeps g c =
-    let plan = c.args.plan.now.syllables in
-    let t = c.keep_joined.new.buffer in
-    let kept = stage_of_keeps plan c.loop-stage.buffer t c.keep_joined.ensures.keeps in
-    let first = stage_then plan c.args.buffer.now c.loop-stage.buffer t c.loop-stage.invariant.keeps kept in
-    let u = c.apply_stage.new.buffer in
-    stage_then plan c.args.buffer.now t u first (stage_of_keeps plan t u c.apply_stage.ensures.keeps)
+    stage_run c.args.plan.now.syllables c.args.buffer.now c.loop-stage.buffer c.keep_joined.new.buffer c.apply_stage.new.buffer
+    c.loop-stage.invariant.keeps c.keep_joined.ensures.keeps c.apply_stage.ensures.keeps
 
 pub returns-then-not-branch-clause-keeps : goal.returns-then-not-branch-clause-keeps
 returns-then-not-branch-clause-keeps g c =
-    let plan = c.args.plan.now.syllables in
-    let t = c.keep_joined.new.buffer in
-    let kept = stage_of_keeps plan c.loop-stage.buffer t c.keep_joined.ensures.keeps in
-    let first = stage_then plan c.args.buffer.now c.loop-stage.buffer t c.loop-stage.invariant.keeps kept in
-    let u = c.apply_stage.new.buffer in
-    stage_then plan c.args.buffer.now t u first (stage_of_keeps plan t u c.apply_stage.ensures.keeps)
+    stage_run c.args.plan.now.syllables c.args.buffer.now c.loop-stage.buffer c.keep_joined.new.buffer c.apply_stage.new.buffer
+    c.loop-stage.invariant.keeps c.keep_joined.ensures.keeps c.apply_stage.ensures.keeps
 
 pub returns-in_err-pause-clause-keeps : goal.returns-in_err-pause-clause-keeps
 returns-in_err-pause-clause-keeps g c =
-    let plan = c.args.plan.now.syllables in
-    let t = c.keep_joined.new.buffer in
-    let kept = stage_of_keeps plan c.loop-stage.buffer t c.keep_joined.ensures.keeps in
-    let first = stage_then plan c.args.buffer.now c.loop-stage.buffer t c.loop-stage.invariant.keeps kept in
-    let u = c.apply_stage.new.buffer in
-    let staged =
-    stage_then plan c.args.buffer.now t u first (stage_of_keeps plan t u c.apply_stage.ensures.keeps)
-    in stage_then plan c.args.buffer.now u c.pause.new.buffer staged c.pause.ensures.keeps
+    stage_then c.args.plan.now.syllables c.args.buffer.now c.apply_stage.new.buffer c.pause.new.buffer
+    (stage_run c.args.plan.now.syllables c.args.buffer.now c.loop-stage.buffer c.keep_joined.new.buffer c.apply_stage.new.buffer
+    c.loop-stage.invariant.keeps c.keep_joined.ensures.keeps c.apply_stage.ensures.keeps)
+    c.pause.ensures.keeps
 
 pub returns-then-not-branch-2-clause-keeps : goal.returns-then-not-branch-2-clause-keeps
 returns-then-not-branch-2-clause-keeps g c =
-    let plan = c.args.plan.now.syllables in
-    let t = c.keep_joined.new.buffer in
-    let kept = stage_of_keeps plan c.loop-stage.buffer t c.keep_joined.ensures.keeps in
-    let first = stage_then plan c.args.buffer.now c.loop-stage.buffer t c.loop-stage.invariant.keeps kept in
-    let u = c.apply_stage.new.buffer in
-    let staged =
-    stage_then plan c.args.buffer.now t u first (stage_of_keeps plan t u c.apply_stage.ensures.keeps)
-    in stage_then plan c.args.buffer.now u c.pause.new.buffer staged c.pause.ensures.keeps
+    stage_then c.args.plan.now.syllables c.args.buffer.now c.apply_stage.new.buffer c.pause.new.buffer
+    (stage_run c.args.plan.now.syllables c.args.buffer.now c.loop-stage.buffer c.keep_joined.new.buffer c.apply_stage.new.buffer
+    c.loop-stage.invariant.keeps c.keep_joined.ensures.keeps c.apply_stage.ensures.keeps)
+    c.pause.ensures.keeps
 
 pub loop-stage-init : goal.loop-stage-init
 loop-stage-init g c =
@@ -80,17 +64,17 @@ loop-stage-preserved g c =
     let list = c.as_slice-stages.result.now in
     let i = c.loop-stage.stage-index in
     let ran : c.apply_stage.result ≡ Ok true = c.in_ok-apply_stage.was ∙ ap (λ (d : Bool). Ok d) c.if-not-branch.false in
-    let kept = stage_of_keeps plan.syllables b t c.keep_joined.ensures.keeps in
-    let first = stage_then plan.syllables s b t c.loop-stage.invariant.keeps kept in
-    let staged = stage_then plan.syllables s t u first (stage_of_keeps plan.syllables t u c.apply_stage.ensures.keeps) in
+    let seen = c.apply_stage.ensures.seen ran in
+    let staged =
+    stage_run plan.syllables s b t u c.loop-stage.invariant.keeps c.keep_joined.ensures.keeps c.apply_stage.ensures.keeps in
     record {
       closed = c.in_ok-pause.ensures.closed c.if-not-branch-2.false;
       keeps = stage_then plan.syllables s u v staged c.pause.ensures.keeps;
       unchanged = c.see_after.ensures.unchanged
-          (λ none. ap (λ (x : Progress). x.has_changed) (c.pause.ensures.nothing none).2 ∙ c.apply_stage.ensures.unchanged ran);
+          (λ none. ap (λ (x : Progress). x.has_changed) (c.pause.ensures.nothing none).2 ∙ seen.unchanged);
       met = c.see_after.ensures.met
           (λ none. subst (λ (x : State). HasGlyphs c.apply_stage.new.glyphs x.input) (sym (c.pause.ensures.nothing none).1)
-          (c.apply_stage.ensures.met ran));
+          seen.met);
       rest = λ steps new others.
           let left : 0 < r.search.budget.steps = subst (λ (x : Search). 0 < x.budget.steps) c.see_after.ensures.same_search steps in
           let mid : 0 < q.search.budget.steps = omega (arith, left, c.pause.ensures.spent.1) in

@@ -1,6 +1,6 @@
 use Rattle.std.proofs.Common.{arith}
 use Rattle.shaping_buffer.proofs.KeepsLemmas.{keeps_none, keeps_then}
-use Rattle.ot_apply.proofs.substitution.apply_each.Goals as goal
+use Rattle.ot_apply.proofs.substitution.MaskedLookups.apply.Goals as goal
 
 pub loop-index-init : goal.loop-index-init
 loop-index-init c =

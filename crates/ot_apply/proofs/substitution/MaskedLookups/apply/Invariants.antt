@@ -1,7 +1,7 @@
 use Rattle.std.proofs.Common.{◌≡◌, false}
 use Rattle.ot_layout.specs.Budget.{IsNotMore}
 use Rattle.shaping_buffer.specs.KeepsClusters.{KeepsClusters}
-use Rattle.ot_apply.proofs.substitution.apply_each.Given as goal
+use Rattle.ot_apply.proofs.substitution.MaskedLookups.apply.Given as goal
 
 abbrev pub invariant-loop-index : goal.invariant-loop-index
 invariant-loop-index l = record {
