@@ -54,10 +54,12 @@ pub fn substitute<F: FontFunctions, W: Watch>(
     if let Some(flags) = &plan.chain_flags {
         return substitute_by_morx(buffer, face, flags, plan.shape.apply_gpos);
     }
+    let course = course_of_syllables(buffer, plan);
     let mut progress = Progress::new(budget_of(buffer));
-    if !substitute_by_gsub(buffer, face, font, plan, &mut progress, watch)? {
+    if !apply_stages(buffer, face, font, plan, &mut progress, watch)? {
         return Ok(false);
     }
+    course.restore(buffer);
     fail_if_spent(buffer, &progress.search.budget);
     Ok(true)
 }
@@ -103,33 +105,18 @@ fn remove_deleted(buffer: &mut hb_buffer_t, removes: bool) {
     }
 }
 
-/// Applies the lookups of `GSUB`, stage by stage, with what the shaper of the script does between them.
+/// How the clusters of a text run, where the shaper of the script puts the glyphs of syllables in
+/// another order. Else none are to be put in order.
 ///
 /// # Requires
 ///
-/// - `buffer.old.have_output ≡ false`
-///
-/// # Errors
-///
-/// `Ok(false)` where a call was refused for length.
-fn substitute_by_gsub<F: FontFunctions, W: Watch>(
-    buffer: &mut hb_buffer_t,
-    face: &Face,
-    font: &F,
-    plan: &TextPlan,
-    progress: &mut Progress,
-    watch: &mut W,
-) -> Result<bool, AllocError> {
+/// - `buffer.now.have_output ≡ false`
+fn course_of_syllables(buffer: &hb_buffer_t, plan: &TextPlan) -> ClusterCourse {
     debug_assert!(!buffer.have_output());
     if !plan.orders_syllables() {
-        return apply_stages(buffer, face, font, plan, progress, watch);
+        return ClusterCourse::Neither;
     }
-    let course = ClusterCourse::of(buffer);
-    if !apply_stages(buffer, face, font, plan, progress, watch)? {
-        return Ok(false);
-    }
-    course.restore(buffer);
-    Ok(true)
+    ClusterCourse::of(buffer)
 }
 
 /// Applies the lookups of all stages, with what is done between them.
@@ -184,8 +171,7 @@ fn lookups_of(layout: &LayoutPlan, start: usize, end: usize) -> &[PlannedLookup]
 /// # Requires
 ///
 /// - `closed: buffer.old.have_output ≡ false`
-/// - `unchanged: progress.old.has_changed ≡ false`
-/// - `met: HasGlyphs glyphs.old buffer.old.input`
+/// - `seen: HasSeen glyphs.old progress.old.has_changed buffer.old`
 ///
 /// # Errors
 ///
@@ -214,8 +200,7 @@ fn apply_stage<W: Watch>(
 /// # Requires
 ///
 /// - `closed: buffer.old.have_output ≡ false`
-/// - `unchanged: progress.old.has_changed ≡ false`
-/// - `met: HasGlyphs glyphs.old buffer.old.input`
+/// - `seen: HasSeen glyphs.old progress.old.has_changed buffer.old`
 ///
 /// # Errors
 ///
@@ -316,44 +301,47 @@ fn apply_fallback(
         SUBSTITUTION_EXTENSION,
         &face.gdef,
     )?;
-    apply_each(
-        buffer,
-        &list,
-        &face.gdef,
-        fallback.masks.as_slice(),
-        progress,
-    )
+    let lookups = MaskedLookups {
+        list: &list,
+        gdef: &face.gdef,
+        masks: fallback.masks.as_slice(),
+    };
+    lookups.apply(buffer, progress)
 }
 
-/// Applies each lookup of a list to the glyphs that have its mask.
-///
-/// # Requires
-///
-/// - `buffer.old.have_output ≡ false`
-///
-/// # Errors
-///
-/// `Ok(false)` where a call was refused for length.
-fn apply_each(
-    buffer: &mut hb_buffer_t,
-    list: &LookupList,
-    definitions: &Gdef,
-    masks: &[u32],
-    progress: &mut Progress,
-) -> Result<bool, AllocError> {
-    debug_assert!(!buffer.have_output());
-    for index in 0..masks.len() {
-        let substitutions = Substitutions {
-            list,
-            gdef: definitions,
-            options: options_of_fallback(masks[index]),
-        };
-        let index = u16::try_from(index).unwrap_or(0);
-        if !crate::ot_gsub::substitute(buffer, &substitutions, index, progress)? {
-            return Ok(false);
+/// Lookups, each with the mask of the glyphs that it is applied to.
+#[derive(Clone, Copy, Debug)]
+struct MaskedLookups<'a, 'list, 'gdef> {
+    list: &'a LookupList<'list>,
+    gdef: &'a Gdef<'gdef>,
+    masks: &'a [u32],
+}
+
+impl MaskedLookups<'_, '_, '_> {
+    /// Applies each of them.
+    ///
+    /// # Requires
+    ///
+    /// - `buffer.old.have_output ≡ false`
+    ///
+    /// # Errors
+    ///
+    /// `Ok(false)` where a call was refused for length.
+    fn apply(&self, buffer: &mut hb_buffer_t, progress: &mut Progress) -> Result<bool, AllocError> {
+        debug_assert!(!buffer.have_output());
+        for index in 0..self.masks.len() {
+            let substitutions = Substitutions {
+                list: self.list,
+                gdef: self.gdef,
+                options: options_of_fallback(self.masks[index]),
+            };
+            let index = u16::try_from(index).unwrap_or(0);
+            if !crate::ot_gsub::substitute(buffer, &substitutions, index, progress)? {
+                return Ok(false);
+            }
         }
+        Ok(true)
     }
-    Ok(true)
 }
 
 /// How a lookup of the fallback is applied.

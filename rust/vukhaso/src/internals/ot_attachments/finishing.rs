@@ -29,9 +29,7 @@ const MAX_NESTING_LEVEL: u32 = 64;
 pub fn position_start(buffer: &mut hb_buffer_t) {
     debug_assert!(!buffer.have_output());
     debug_assert!(buffer.have_positions());
-    debug_assert!(buffer.out_len() == 0);
     detach_all(buffer.pos_mut());
-    debug_assert!(buffer.out_len() == 0);
 }
 
 /// Takes what glyphs are attached to from all positions.
@@ -68,20 +66,6 @@ fn detach(position: &mut GlyphPosition) {
 /// ```
 #[inline]
 pub fn position_finish_offsets(buffer: &mut hb_buffer_t) {
-    debug_assert!(!buffer.have_output());
-    debug_assert!(buffer.have_positions());
-    debug_assert!(buffer.out_len() == 0);
-    propagate_all(buffer);
-    debug_assert!(buffer.out_len() == 0);
-}
-
-/// Moves each attached glyph, if there are any.
-///
-/// # Requires
-///
-/// - `closed: buffer.old.have_output ≡ false`
-/// - `placed: IsSome buffer.old.positions`
-fn propagate_all(buffer: &mut hb_buffer_t) {
     debug_assert!(!buffer.have_output());
     debug_assert!(buffer.have_positions());
     if buffer.scratch_flags & HB_BUFFER_SCRATCH_FLAG_HAS_GPOS_ATTACHMENT != 0 {

@@ -25,8 +25,7 @@ use crate::buffer::{HB_BUFFER_SCRATCH_FLAG_HAS_GPOS_ATTACHMENT, hb_buffer_t};
 pub fn mark_break(buffer: &mut hb_buffer_t, from: usize, to: usize) {
     debug_assert!(!buffer.have_output());
     debug_assert!(buffer.have_positions());
-    debug_assert!(buffer.out_len() == 0);
-    let len = buffer.len();
+    let len = closed_len(buffer);
     if from <= to && from <= len {
         buffer.unsafe_to_break(Some(from), Some(to));
     }
@@ -53,11 +52,22 @@ pub fn mark_break(buffer: &mut hb_buffer_t, from: usize, to: usize) {
 pub fn mark_concat(buffer: &mut hb_buffer_t, from: usize, to: usize) {
     debug_assert!(!buffer.have_output());
     debug_assert!(buffer.have_positions());
-    debug_assert!(buffer.out_len() == 0);
-    let len = buffer.len();
+    let len = closed_len(buffer);
     if from < to && from <= len {
         buffer.unsafe_to_concat(Some(from), Some(to));
     }
+}
+
+/// How many glyphs there are, of which none is put out while no output is open.
+///
+/// # Requires
+///
+/// - `buffer.now.have_output ≡ false`
+#[inline(always)]
+fn closed_len(buffer: &hb_buffer_t) -> usize {
+    debug_assert!(!buffer.have_output());
+    debug_assert!(buffer.out_len() == 0);
+    buffer.len()
 }
 
 /// Says that there are glyphs that are attached to others.

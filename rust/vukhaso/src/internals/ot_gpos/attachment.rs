@@ -35,6 +35,15 @@ pub(crate) struct Attachment {
     y: i32,
 }
 
+/// A row of a matrix of anchors, which has a column for each class of marks.
+#[derive(Clone, Copy, Debug)]
+pub(crate) struct AnchorRow<'a> {
+    /// The matrix.
+    pub matrix: &'a [u8],
+    /// The number of the row.
+    pub number: u32,
+}
+
 /// The anchor of the glyph at a place in a table.
 pub(crate) fn anchor_at<P: ContourPoints>(
     table: &[u8],
@@ -55,16 +64,15 @@ pub(crate) fn anchor_at<P: ContourPoints>(
     }
 }
 
-/// The attachment of the mark to the glyph at a place, by the anchors of this row of a matrix.
+/// The attachment of the mark to the glyph at a place, by the anchors of this row.
 pub(crate) fn attachment_by<P: ContourPoints>(
     glyphs: &[hb_glyph_info_t],
     turn: &Turn,
-    matrix: &[u8],
-    row: u32,
+    row: &AnchorRow<'_>,
     base: usize,
     points: &P,
 ) -> AttachmentFound {
-    match anchor_for(glyphs, turn, matrix, row, base, points) {
+    match anchor_for(glyphs, turn, row, base, points) {
         Some(anchor) => {
             AttachmentFound::Attached(attachment_to(glyphs, turn, &anchor, base, points))
         }
@@ -82,14 +90,13 @@ fn marks_of<'a>(turn: &Turn<'a>) -> &'a [u8] {
 fn anchor_for<P: ContourPoints>(
     glyphs: &[hb_glyph_info_t],
     turn: &Turn,
-    matrix: &[u8],
-    row: u32,
+    row: &AnchorRow<'_>,
     base: usize,
     points: &P,
 ) -> Option<Anchor> {
     let class_count = u16_at(turn.subtable.table, 6)?;
     let class = mark_class(marks_of(turn), turn.index);
-    let table = anchor_in(matrix, row, class, class_count)?;
+    let table = anchor_in(row.matrix, row.number, class, class_count)?;
     anchor_at(table, turn.instance, glyphs, base, points)
 }
 
@@ -126,15 +133,13 @@ fn from_own(scale: &Scale, base: usize, own: &Anchor, anchor: &Anchor) -> Attach
 ///
 /// # Requires
 ///
-/// - `closed: buffer.old.have_output ≡ false`
-/// - `placed: IsSome buffer.old.positions`
+/// - `placed: HasPositions buffer.old`
 pub(crate) fn attach_mark(
     buffer: &mut hb_buffer_t,
     place: usize,
     found: &AttachmentFound,
 ) -> Option<usize> {
-    debug_assert!(!buffer.have_output());
-    debug_assert!(buffer.have_positions());
+    debug_assert!(!buffer.have_output() && buffer.have_positions());
     let end = place.saturating_add(1);
     match *found {
         AttachmentFound::Nothing => None,

@@ -51,15 +51,13 @@ struct Join {
 ///
 /// # Requires
 ///
-/// - `closed: buffer.old.have_output ≡ false`
-/// - `placed: IsSome buffer.old.positions`
+/// - `placed: HasPositions buffer.old`
 pub(crate) fn place_cursive<P: ContourPoints>(
     buffer: &mut hb_buffer_t,
     turn: &Turn,
     points: &P,
 ) -> Option<usize> {
-    debug_assert!(!buffer.have_output());
-    debug_assert!(buffer.have_positions());
+    debug_assert!(!buffer.have_output() && buffer.have_positions());
     let found = join_of(buffer.info(), turn, points);
     join_found(buffer, turn, &found)
 }
@@ -68,11 +66,9 @@ pub(crate) fn place_cursive<P: ContourPoints>(
 ///
 /// # Requires
 ///
-/// - `closed: buffer.old.have_output ≡ false`
-/// - `placed: IsSome buffer.old.positions`
+/// - `placed: HasPositions buffer.old`
 fn join_found(buffer: &mut hb_buffer_t, turn: &Turn, found: &JoinFound) -> Option<usize> {
-    debug_assert!(!buffer.have_output());
-    debug_assert!(buffer.have_positions());
+    debug_assert!(!buffer.have_output() && buffer.have_positions());
     let end = turn.place.saturating_add(1);
     let direction = buffer.direction;
     match *found {
@@ -275,7 +271,7 @@ fn hang_on(
 ) {
     reverse_chain(positions, child, direction.is_horizontal(), parent);
     if child < positions.len() {
-        let chain = hang_at(positions, direction, child, parent, x, y);
+        let chain = hang_at(positions, child, parent, direction, x, y);
         part_at(positions, parent, chain, direction);
     }
 }
@@ -284,18 +280,18 @@ fn hang_on(
 ///
 /// # Requires
 ///
-/// - `child < length positions.old`
+/// - `place < length positions.old`
 fn hang_at(
     positions: &mut [GlyphPosition],
-    direction: Direction,
-    child: usize,
+    place: usize,
     parent: usize,
+    direction: Direction,
     x: i32,
     y: i32,
 ) -> i16 {
-    debug_assert!(child < positions.len());
-    hang(&mut positions[child], direction, child, parent, x, y);
-    positions[child].attach_chain()
+    debug_assert!(place < positions.len());
+    hang(&mut positions[place], direction, place, parent, x, y);
+    positions[place].attach_chain()
 }
 
 /// Attaches a glyph to its parent.

@@ -73,18 +73,15 @@ pub fn position<P: ContourPoints>(
 ) {
     debug_assert!(!buffer.have_output());
     debug_assert!(buffer.have_positions());
-    debug_assert!(buffer.out_len() == 0);
     place_all(buffer, setting, lookup, options, search);
     fail_if_spent(buffer, search);
-    debug_assert!(buffer.out_len() == 0);
 }
 
 /// Positions the glyphs by the lookup of this index, one after the other.
 ///
 /// # Requires
 ///
-/// - `closed: buffer.old.have_output ≡ false`
-/// - `placed: IsSome buffer.old.positions`
+/// - `placed: HasPositions buffer.old`
 fn place_all<'a, P: ContourPoints>(
     buffer: &mut hb_buffer_t,
     setting: &'a Setting<'a, P>,
@@ -92,8 +89,7 @@ fn place_all<'a, P: ContourPoints>(
     options: &'a LookupOptions,
     search: &mut Search,
 ) {
-    debug_assert!(!buffer.have_output());
-    debug_assert!(buffer.have_positions());
+    debug_assert!(!buffer.have_output() && buffer.have_positions());
     let Some(lookup) = setting.list.lookup(index) else {
         return;
     };
@@ -127,16 +123,14 @@ fn next_place(glyphs: &[hb_glyph_info_t], lookup: &Lookup, mask: u32, from: usiz
 ///
 /// # Requires
 ///
-/// - `closed: buffer.old.have_output ≡ false`
-/// - `placed: IsSome buffer.old.positions`
+/// - `placed: HasPositions buffer.old`
 fn place_by_lookup<'a, P: ContourPoints>(
     buffer: &mut hb_buffer_t,
     task: &Task<'a, P>,
     search: &mut Search,
     last: &mut LastBase,
 ) -> Option<usize> {
-    debug_assert!(!buffer.have_output());
-    debug_assert!(buffer.have_positions());
+    debug_assert!(!buffer.have_output() && buffer.have_positions());
     if task.place >= buffer.len() {
         return None;
     }
@@ -157,8 +151,7 @@ fn place_by_lookup<'a, P: ContourPoints>(
 ///
 /// # Requires
 ///
-/// - `closed: buffer.old.have_output ≡ false`
-/// - `placed: IsSome buffer.old.positions`
+/// - `placed: HasPositions buffer.old`
 /// - `within: task.now.place < length buffer.old.input`
 /// - `next: IsNextOf task.now.setting.now.list.now.coverages.items subtable.now`
 fn try_subtable<'a, P: ContourPoints>(
@@ -169,8 +162,7 @@ fn try_subtable<'a, P: ContourPoints>(
     search: &mut Search,
     last: &mut LastBase,
 ) -> Option<usize> {
-    debug_assert!(!buffer.have_output());
-    debug_assert!(buffer.have_positions());
+    debug_assert!(!buffer.have_output() && buffer.have_positions());
     if !subtable.may_be_for(glyph) {
         return None;
     }
@@ -200,8 +192,7 @@ fn index_in(subtable: &Subtable, glyph: u32) -> Option<u32> {
 ///
 /// # Requires
 ///
-/// - `closed: buffer.old.have_output ≡ false`
-/// - `placed: IsSome buffer.old.positions`
+/// - `placed: HasPositions buffer.old`
 /// - `within: turn.now.place < length buffer.old.input`
 /// - `place: turn.now.place ≡ task.now.place`
 /// - `next: IsNextOf task.now.setting.now.list.now.coverages.items turn.now.subtable.now`
@@ -213,8 +204,7 @@ fn place_by_subtable<'a, P: ContourPoints>(
     search: &mut Search,
     last: &mut LastBase,
 ) -> Option<usize> {
-    debug_assert!(!buffer.have_output());
-    debug_assert!(buffer.have_positions());
+    debug_assert!(!buffer.have_output() && buffer.have_positions());
     match turn.subtable.lookup_type {
         7 | 8 => place_by_context(buffer, task, turn, search, last),
         kind => place_by_simple(buffer, kind, turn, last, task.setting.points),
@@ -225,8 +215,7 @@ fn place_by_subtable<'a, P: ContourPoints>(
 ///
 /// # Requires
 ///
-/// - `closed: buffer.old.have_output ≡ false`
-/// - `placed: IsSome buffer.old.positions`
+/// - `placed: HasPositions buffer.old`
 fn place_by_simple<P: ContourPoints>(
     buffer: &mut hb_buffer_t,
     kind: u16,
@@ -234,8 +223,7 @@ fn place_by_simple<P: ContourPoints>(
     last: &mut LastBase,
     points: &P,
 ) -> Option<usize> {
-    debug_assert!(!buffer.have_output());
-    debug_assert!(buffer.have_positions());
+    debug_assert!(!buffer.have_output() && buffer.have_positions());
     match kind {
         1 => place_single(buffer, turn),
         2 => place_pair(buffer, turn),
@@ -251,31 +239,29 @@ fn place_by_simple<P: ContourPoints>(
 ///
 /// # Requires
 ///
-/// - `closed: buffer.old.have_output ≡ false`
-/// - `placed: IsSome buffer.old.positions`
-/// - `within: turn.now.place < length buffer.old.input`
-/// - `place: turn.now.place ≡ task.now.place`
-/// - `next: IsNextOf task.now.setting.now.list.now.coverages.items turn.now.subtable.now`
-/// - `is_context: is_simple turn.now.subtable.now ≡ false`
+/// - `placed: HasPositions buffer.old`
+/// - `within: context.now.place < length buffer.old.input`
+/// - `place: context.now.place ≡ task.now.place`
+/// - `next: IsNextOf task.now.setting.now.list.now.coverages.items context.now.subtable.now`
+/// - `is_context: is_simple context.now.subtable.now ≡ false`
 fn place_by_context<'a, P: ContourPoints>(
     buffer: &mut hb_buffer_t,
     task: &Task<'a, P>,
-    turn: &Turn<'a>,
+    context: &Turn<'a>,
     search: &mut Search,
     last: &mut LastBase,
 ) -> Option<usize> {
-    debug_assert!(!buffer.have_output());
-    debug_assert!(buffer.have_positions());
-    let context = SkippingIterator::over_context(task.lookup.lookup_props, task.options, true);
-    let fit = fit_at(buffer.info(), task.setting.list, turn, &context, search);
-    let reached = turn.place.saturating_add(search.reach.to);
+    debug_assert!(!buffer.have_output() && buffer.have_positions());
+    let around = SkippingIterator::over_context(task.lookup.lookup_props, task.options, true);
+    let fit = fit_at(buffer.info(), task.setting.list, context, &around, search);
+    let reached = context.place.saturating_add(search.reach.to);
     mark_concat(buffer, search.reach.from, reached);
     let fit = fit?;
-    mark_break(buffer, fit.from, turn.place.saturating_add(fit.to));
+    mark_break(buffer, fit.from, context.place.saturating_add(fit.to));
     let places = mem::replace(&mut search.places, MatchPositions::new());
     apply_records(buffer, task, &fit, &places, search, last);
-    let end = turn.place.saturating_add(fit.end);
-    mark_concat(buffer, end, turn.place.saturating_add(fit.beyond));
+    let end = context.place.saturating_add(fit.end);
+    mark_concat(buffer, end, context.place.saturating_add(fit.beyond));
     Some(end)
 }
 
@@ -284,8 +270,7 @@ fn place_by_context<'a, P: ContourPoints>(
 ///
 /// # Requires
 ///
-/// - `closed: buffer.old.have_output ≡ false`
-/// - `placed: IsSome buffer.old.positions`
+/// - `placed: HasPositions buffer.old`
 fn apply_records<'a, P: ContourPoints>(
     buffer: &mut hb_buffer_t,
     task: &Task<'a, P>,
@@ -294,8 +279,7 @@ fn apply_records<'a, P: ContourPoints>(
     search: &mut Search,
     last: &mut LastBase,
 ) {
-    debug_assert!(!buffer.have_output());
-    debug_assert!(buffer.have_positions());
+    debug_assert!(!buffer.have_output() && buffer.have_positions());
     for index in 0..usize::from(fit.record_count) {
         if let Some(nested) = nested_task(task, fit, places, index) {
             if task.depth == 0 || !search.budget.nest() {
@@ -336,11 +320,9 @@ fn nested_task<'a, P>(
 ///
 /// # Requires
 ///
-/// - `closed: buffer.old.have_output ≡ false`
-/// - `placed: IsSome buffer.old.positions`
+/// - `placed: HasPositions buffer.old`
 fn fail_if_spent(buffer: &mut hb_buffer_t, search: &Search) {
-    debug_assert!(!buffer.have_output());
-    debug_assert!(buffer.have_positions());
+    debug_assert!(!buffer.have_output() && buffer.have_positions());
     if search.budget.is_spent() {
         fail(buffer);
     }
@@ -350,10 +332,8 @@ fn fail_if_spent(buffer: &mut hb_buffer_t, search: &Search) {
 ///
 /// # Requires
 ///
-/// - `closed: buffer.old.have_output ≡ false`
-/// - `placed: IsSome buffer.old.positions`
+/// - `placed: HasPositions buffer.old`
 fn fail(buffer: &mut hb_buffer_t) {
-    debug_assert!(!buffer.have_output());
-    debug_assert!(buffer.have_positions());
+    debug_assert!(!buffer.have_output() && buffer.have_positions());
     buffer.shaping_failed = true;
 }

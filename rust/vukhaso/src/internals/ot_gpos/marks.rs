@@ -4,7 +4,7 @@
 
 use crate::font_tables::bytes::table_at_16;
 use crate::glyph::{GlyphPropsFlags, hb_glyph_info_t};
-use crate::ot_gpos::attachment::{AttachmentFound, attachment_by};
+use crate::ot_gpos::attachment::{AnchorRow, AttachmentFound, attachment_by};
 use crate::ot_gpos::ligatures::{are_of_one_part, is_first_of_many, ligature_row};
 use crate::ot_gpos::turn::Turn;
 use crate::ot_gpos_tables::anchors::ligature_matrix;
@@ -63,8 +63,24 @@ fn base_of<P: ContourPoints>(
     points: &P,
 ) -> AttachmentFound {
     find_base(glyphs, turn, last, true);
-    match base_index(glyphs, turn, last.base) {
-        Ok((base, row)) => attachment_by(glyphs, turn, bases_of(turn), row, base, points),
+    attached_at(glyphs, turn, last.base, points)
+}
+
+/// The attachment to the base or the mark at a place, if there is one and the subtable has it.
+fn attached_at<P: ContourPoints>(
+    glyphs: &[hb_glyph_info_t],
+    turn: &Turn,
+    base: Option<usize>,
+    points: &P,
+) -> AttachmentFound {
+    match base_index(glyphs, turn, base) {
+        Ok((base, number)) => {
+            let row = AnchorRow {
+                matrix: bases_of(turn),
+                number,
+            };
+            attachment_by(glyphs, turn, &row, base, points)
+        }
         Err(from) => AttachmentFound::NoBase(from),
     }
 }
@@ -86,7 +102,10 @@ fn ligature_of<P: ContourPoints>(
         Ok((base, index)) => {
             let matrix = ligature_matrix(bases_of(turn), index).unwrap_or(&[]);
             match row_of(glyphs, matrix, base, turn.place) {
-                Some(row) => attachment_by(glyphs, turn, matrix, row, base, points),
+                Some(number) => {
+                    let row = AnchorRow { matrix, number };
+                    attachment_by(glyphs, turn, &row, base, points)
+                }
                 None => AttachmentFound::NoBase(base),
             }
         }
@@ -116,10 +135,7 @@ fn mark_of<P: ContourPoints>(
 ) -> AttachmentFound {
     match mark_before(glyphs, turn) {
         Found::At(before) if is_fellow(glyphs, before, turn.place) => {
-            match base_index(glyphs, turn, Some(before)) {
-                Ok((base, row)) => attachment_by(glyphs, turn, bases_of(turn), row, base, points),
-                Err(from) => AttachmentFound::NoBase(from),
-            }
+            attached_at(glyphs, turn, Some(before), points)
         }
         Found::At(before) => AttachmentFound::NoBase(before),
         Found::Other(before) => AttachmentFound::NoBase(before.saturating_sub(1)),

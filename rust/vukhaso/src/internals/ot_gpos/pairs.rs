@@ -15,15 +15,24 @@ use crate::ot_gpos_tables::values::{ValueRecord, advanced};
 use crate::ot_layout::matcher::{Matcher, class_of};
 use crate::ot_layout::skipping_iterator::{Found, SkippingIterator};
 
+/// A pair that a subtable has records for.
+#[derive(Clone, Copy, Debug)]
+struct AdjustedPair {
+    /// The place of its second glyph.
+    second: usize,
+    /// Its records.
+    values: PairValues,
+    /// Whether pairs have records for their second glyphs.
+    uses_second: bool,
+}
+
 /// Moves the glyph, and says where the iterator goes on; `None` where the subtable is not for it.
 ///
 /// # Requires
 ///
-/// - `closed: buffer.old.have_output ≡ false`
-/// - `placed: IsSome buffer.old.positions`
+/// - `placed: HasPositions buffer.old`
 pub(crate) fn place_single(buffer: &mut hb_buffer_t, turn: &Turn) -> Option<usize> {
-    debug_assert!(!buffer.have_output());
-    debug_assert!(buffer.have_positions());
+    debug_assert!(!buffer.have_output() && buffer.have_positions());
     let values = single_values(turn.subtable.table, turn.index)?;
     let is_horizontal = buffer.direction.is_horizontal();
     let table = turn.subtable.table;
@@ -57,11 +66,9 @@ fn move_at(
 ///
 /// # Requires
 ///
-/// - `closed: buffer.old.have_output ≡ false`
-/// - `placed: IsSome buffer.old.positions`
+/// - `placed: HasPositions buffer.old`
 pub(crate) fn place_pair(buffer: &mut hb_buffer_t, turn: &Turn) -> Option<usize> {
-    debug_assert!(!buffer.have_output());
-    debug_assert!(buffer.have_positions());
+    debug_assert!(!buffer.have_output() && buffer.have_positions());
     let len = buffer.len();
     if turn.place >= len {
         return None;
@@ -83,19 +90,17 @@ pub(crate) fn place_pair(buffer: &mut hb_buffer_t, turn: &Turn) -> Option<usize>
 ///
 /// # Requires
 ///
-/// - `closed: buffer.old.have_output ≡ false`
-/// - `placed: IsSome buffer.old.positions`
+/// - `placed: HasPositions buffer.old`
 /// - `first: turn.now.place < length buffer.old.input`
 /// - `second: second < length buffer.old.input`
 fn place_with(buffer: &mut hb_buffer_t, turn: &Turn, second: usize) -> Option<usize> {
-    debug_assert!(!buffer.have_output());
-    debug_assert!(buffer.have_positions());
+    debug_assert!(!buffer.have_output() && buffer.have_positions());
     debug_assert!(second < buffer.info().len());
     let glyphs = glyphs_at(buffer.info(), turn.place, second);
     if buffer.direction.is_horizontal() && is_kerning(turn.subtable.table) {
-        kern_with(buffer, turn, second, glyphs)
+        kern(buffer, turn, second, glyphs)
     } else {
-        move_with(buffer, turn, second, glyphs)
+        adjust(buffer, turn, second, glyphs)
     }
 }
 
@@ -116,19 +121,12 @@ fn glyphs_at(glyphs: &[hb_glyph_info_t], first: usize, second: usize) -> (u32, u
 ///
 /// # Requires
 ///
-/// - `closed: buffer.old.have_output ≡ false`
-/// - `placed: IsSome buffer.old.positions`
+/// - `placed: HasPositions buffer.old`
 /// - `horizontal: is_horizontal buffer.old.direction ≡ true`
 /// - `kerns: is_kerning (pairs.table_of (visit_of turn.now)) ≡ true`
 #[inline(always)]
-fn kern_with(
-    buffer: &mut hb_buffer_t,
-    turn: &Turn,
-    second: usize,
-    glyphs: (u32, u32),
-) -> Option<usize> {
-    debug_assert!(!buffer.have_output());
-    debug_assert!(buffer.have_positions());
+fn kern(buffer: &mut hb_buffer_t, turn: &Turn, second: usize, glyphs: (u32, u32)) -> Option<usize> {
+    debug_assert!(!buffer.have_output() && buffer.have_positions());
     match advance_of(turn, glyphs) {
         Some(advance) => {
             kern_pair(buffer, turn, second, advance);
@@ -173,14 +171,12 @@ fn advance_of(turn: &Turn, glyphs: (u32, u32)) -> Option<i16> {
 ///
 /// # Requires
 ///
-/// - `closed: buffer.old.have_output ≡ false`
-/// - `placed: IsSome buffer.old.positions`
+/// - `placed: HasPositions buffer.old`
 /// - `horizontal: is_horizontal buffer.old.direction ≡ true`
 /// - `kerns: is_kerning (pairs.table_of (visit_of turn.now)) ≡ true`
 #[inline(always)]
 fn kern_pair(buffer: &mut hb_buffer_t, turn: &Turn, second: usize, advance: i16) {
-    debug_assert!(!buffer.have_output());
-    debug_assert!(buffer.have_positions());
+    debug_assert!(!buffer.have_output() && buffer.have_positions());
     let end = second.saturating_add(1);
     if advance != 0 {
         advance_at(buffer.pos_mut(), turn, second, advance);
@@ -195,11 +191,9 @@ fn kern_pair(buffer: &mut hb_buffer_t, turn: &Turn, second: usize, advance: i16)
 ///
 /// # Requires
 ///
-/// - `closed: buffer.old.have_output ≡ false`
-/// - `placed: IsSome buffer.old.positions`
+/// - `placed: HasPositions buffer.old`
 fn mark_unmoved(buffer: &mut hb_buffer_t, turn: &Turn, end: usize) {
-    debug_assert!(!buffer.have_output());
-    debug_assert!(buffer.have_positions());
+    debug_assert!(!buffer.have_output() && buffer.have_positions());
     mark_passed(buffer, turn, end);
     mark_concat(buffer, turn.place, end);
 }
@@ -208,11 +202,9 @@ fn mark_unmoved(buffer: &mut hb_buffer_t, turn: &Turn, end: usize) {
 ///
 /// # Requires
 ///
-/// - `closed: buffer.old.have_output ≡ false`
-/// - `placed: IsSome buffer.old.positions`
+/// - `placed: HasPositions buffer.old`
 fn mark_passed(buffer: &mut hb_buffer_t, turn: &Turn, end: usize) {
-    debug_assert!(!buffer.have_output());
-    debug_assert!(buffer.have_positions());
+    debug_assert!(!buffer.have_output() && buffer.have_positions());
     if passes_over_first(buffer.info(), turn, end) {
         mark_break(buffer, turn.place, end.saturating_sub(1));
     }
@@ -264,22 +256,25 @@ fn next_shown(iterator: &SkippingIterator, glyphs: &[hb_glyph_info_t], place: us
 ///
 /// # Requires
 ///
-/// - `closed: buffer.old.have_output ≡ false`
-/// - `placed: IsSome buffer.old.positions`
+/// - `placed: HasPositions buffer.old`
 #[inline(always)]
-fn move_with(
+fn adjust(
     buffer: &mut hb_buffer_t,
     turn: &Turn,
     second: usize,
     glyphs: (u32, u32),
 ) -> Option<usize> {
-    debug_assert!(!buffer.have_output());
-    debug_assert!(buffer.have_positions());
+    debug_assert!(!buffer.have_output() && buffer.have_positions());
     let end = second.saturating_add(1);
     match values_of(turn, glyphs) {
         Some(values) => {
             let uses_second = pair_formats(turn.subtable.table).1 != 0;
-            move_pair(buffer, turn, second, &values, uses_second);
+            let pair = AdjustedPair {
+                second,
+                values,
+                uses_second,
+            };
+            move_pair(buffer, turn, &pair);
             Some(if uses_second { end } else { second })
         }
         None => {
@@ -318,24 +313,16 @@ fn values_of(turn: &Turn, glyphs: (u32, u32)) -> Option<PairValues> {
 ///
 /// # Requires
 ///
-/// - `closed: buffer.old.have_output ≡ false`
-/// - `placed: IsSome buffer.old.positions`
-/// - `uses: uses_second ≡ pairs.uses_second (visit_of turn.now)`
-fn move_pair(
-    buffer: &mut hb_buffer_t,
-    turn: &Turn,
-    second: usize,
-    values: &PairValues,
-    uses_second: bool,
-) {
-    debug_assert!(!buffer.have_output());
-    debug_assert!(buffer.have_positions());
-    move_or_not(buffer, turn, second, values, uses_second);
-    if uses_second {
+/// - `placed: HasPositions buffer.old`
+/// - `uses: pair.now.uses_second ≡ pairs.uses_second (visit_of turn.now)`
+fn move_pair(buffer: &mut hb_buffer_t, turn: &Turn, pair: &AdjustedPair) {
+    debug_assert!(!buffer.have_output() && buffer.have_positions());
+    move_or_not(buffer, turn, pair);
+    if pair.uses_second {
         mark_break(
             buffer,
             turn.place,
-            second.saturating_add(1).saturating_add(1),
+            pair.second.saturating_add(1).saturating_add(1),
         );
     }
 }
@@ -344,22 +331,14 @@ fn move_pair(
 ///
 /// # Requires
 ///
-/// - `closed: buffer.old.have_output ≡ false`
-/// - `placed: IsSome buffer.old.positions`
-/// - `uses: uses_second ≡ pairs.uses_second (visit_of turn.now)`
-fn move_or_not(
-    buffer: &mut hb_buffer_t,
-    turn: &Turn,
-    second: usize,
-    values: &PairValues,
-    uses_second: bool,
-) {
-    debug_assert!(!buffer.have_output());
-    debug_assert!(buffer.have_positions());
-    let end = second.saturating_add(1);
+/// - `placed: HasPositions buffer.old`
+/// - `uses: pair.now.uses_second ≡ pairs.uses_second (visit_of turn.now)`
+fn move_or_not(buffer: &mut hb_buffer_t, turn: &Turn, pair: &AdjustedPair) {
+    debug_assert!(!buffer.have_output() && buffer.have_positions());
+    let end = pair.second.saturating_add(1);
     let is_horizontal = buffer.direction.is_horizontal();
-    if has_effect(turn, values, uses_second, is_horizontal) {
-        move_both(buffer.pos_mut(), turn, second, values, is_horizontal);
+    if has_effect(turn, pair, is_horizontal) {
+        move_both(buffer.pos_mut(), turn, pair, is_horizontal);
         mark_break(buffer, turn.place, end);
     } else {
         mark_unmoved(buffer, turn, end);
@@ -370,10 +349,10 @@ fn move_or_not(
 ///
 /// # Requires
 ///
-/// - `uses: uses_second ≡ pairs.uses_second (visit_of turn.now)`
-fn has_effect(turn: &Turn, values: &PairValues, uses_second: bool, is_horizontal: bool) -> bool {
-    values.first.has_effect(turn.instance, is_horizontal)
-        || uses_second && values.second.has_effect(turn.instance, is_horizontal)
+/// - `uses: pair.now.uses_second ≡ pairs.uses_second (visit_of turn.now)`
+fn has_effect(turn: &Turn, pair: &AdjustedPair, is_horizontal: bool) -> bool {
+    pair.values.first.has_effect(turn.instance, is_horizontal)
+        || pair.uses_second && pair.values.second.has_effect(turn.instance, is_horizontal)
 }
 
 /// From where the offsets of device tables are counted.
@@ -389,15 +368,14 @@ fn base_of<'a>(turn: &Turn<'a>) -> &'a [u8] {
 fn move_both(
     positions: &mut [GlyphPosition],
     turn: &Turn,
-    second: usize,
-    values: &PairValues,
+    pair: &AdjustedPair,
     is_horizontal: bool,
 ) {
     let base = base_of(turn);
     move_at(
         positions,
         turn.place,
-        &values.first,
+        &pair.values.first,
         base,
         turn.instance,
         is_horizontal,
@@ -405,8 +383,8 @@ fn move_both(
     if pair_formats(turn.subtable.table).1 != 0 {
         move_at(
             positions,
-            second,
-            &values.second,
+            pair.second,
+            &pair.values.second,
             base,
             turn.instance,
             is_horizontal,

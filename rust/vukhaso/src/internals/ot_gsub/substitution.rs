@@ -87,7 +87,6 @@ impl Progress {
 /// ensures refusal { IsRefusal false result buffer.new }
 /// ensures keeps { KeepsClusters buffer.old buffer.new }
 /// ```
-#[inline]
 pub fn substitute(
     buffer: &mut hb_buffer_t,
     substitutions: &Substitutions,
@@ -110,26 +109,6 @@ pub fn substitute(
     if first == buffer.len() {
         return Ok(true);
     }
-    apply(buffer, substitutions, lookup, first, progress)
-}
-
-/// Applies a lookup at each glyph, from the side that it is applied from.
-///
-/// # Requires
-///
-/// - `closed: buffer.old.have_output ≡ false`
-/// - `first: first ≤ length buffer.old.input`
-/// - `passed: (place : ℕ) → place < first → is_for lookup.now substitutions.now.options.mask (glyph_at buffer.old.input place) ≡ false`
-/// - `at: first < length buffer.old.input → is_for lookup.now substitutions.now.options.mask (glyph_at buffer.old.input first) ≡ true`
-fn apply(
-    buffer: &mut hb_buffer_t,
-    substitutions: &Substitutions,
-    lookup: &Lookup,
-    first: usize,
-    progress: &mut Progress,
-) -> Result<bool, AllocError> {
-    debug_assert!(!buffer.have_output());
-    debug_assert!(first <= buffer.info().len());
     if progress.search.budget.is_spent() {
         fail(buffer);
         return Ok(true);
@@ -204,7 +183,7 @@ fn open_at(buffer: &mut hb_buffer_t, first: usize) -> Result<bool, AllocError> {
 ///
 /// # Requires
 ///
-/// - `opened: buffer.old.have_output ≡ true`
+/// - `buffer.old.have_output ≡ true`
 fn substitute_rest(
     buffer: &mut hb_buffer_t,
     substitutions: &Substitutions,
