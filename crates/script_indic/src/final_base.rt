@@ -2,6 +2,7 @@
 
 ghost use Rattle.std.specs.Prelude.{◌≡◌};
 ghost use Rattle.glyph_lists.specs.Clusters.{clusters};
+ghost use Rattle.script_indic.specs.FinalBase as bases;
 
 use crate::initial_order::place_at;
 use crate::item::is_consonant;
@@ -79,11 +80,9 @@ fn base_of_pref(syllable: &mut [hb_glyph_info_t], base: FinalBase, mask: u32) ->
 }
 
 /// The first item behind a place that has a mask.
-pub(crate) fn masked_behind(
-    syllable: &[hb_glyph_info_t],
-    place: usize,
-    mask: u32,
-) -> Option<usize> {
+pub(crate) fn masked_behind(syllable: &[hb_glyph_info_t], place: usize, mask: u32) -> Option<usize>
+    ensures { result ≡ bases.masked_behind mask place syllable.now }
+{
     for at in place.saturating_add(1)..syllable.len() {
         if syllable[at].mask & mask != 0 {
             return Some(at);

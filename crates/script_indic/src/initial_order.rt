@@ -4,6 +4,7 @@ ghost use Rattle.std.specs.Prelude.{◌≡◌, ◌<◌, length};
 ghost use Rattle.std.specs.List.Sorted.{IsPermutation};
 ghost use Rattle.glyph_lists.specs.Clusters.{clusters};
 ghost use Rattle.script_syllables.specs.KeepsNumbers.{SameClusters};
+ghost use Rattle.script_indic.specs.InitialOrder as initial;
 
 use crate::base::Base;
 use crate::item::{is_consonant, is_matra};
@@ -25,24 +26,42 @@ pub(crate) fn set_positions(syllable: &mut [hb_glyph_info_t], base: &Base, plan:
 }
 
 /// Gives the base its position, and the items before it theirs.
-#[tactic(auto, using(shaping_buffer::proofs::ClosedKeepsLemmas::clusters_written))]
 fn place_base(syllable: &mut [hb_glyph_info_t], base: &Base)
-    ensures { clusters syllable.new ≡ clusters syllable.old }
+    ensures is { syllable.new ≡ initial.with_base base.now syllable.old }
+    ensures same { clusters syllable.new ≡ clusters syllable.old }
 {
-    for place in 0..base.place.min(syllable.len()) {
-        let own = position(&syllable[place]).min(Position::PreConsonant);
-        set_position(&mut syllable[place], own);
-    }
+    place_before(syllable, base.place);
     place_at(syllable, base.place, Position::Base);
     if base.has_reph {
         place_at(syllable, 0, Position::Reph);
     }
 }
 
+/// Gives the items before the base their positions.
+#[tactic(auto, using(glyph_lists::proofs::MapLemmas::walks, shaping_buffer::proofs::ClosedKeepsLemmas::clusters_written))]
+fn place_before(syllable: &mut [hb_glyph_info_t], base: usize)
+    ensures is { syllable.new ≡ initial.with_items_before base syllable.old }
+    ensures same { clusters syllable.new ≡ clusters syllable.old }
+{
+    for place in 0..base.min(syllable.len()) {
+        place_one_before(&mut syllable[place]);
+    }
+}
+
+/// Gives an item before the base its position.
+fn place_one_before(info: &mut hb_glyph_info_t)
+    ensures is { info.new ≡ initial.before_base info.old }
+    ensures cluster { info.new.cluster ≡ info.old.cluster }
+{
+    let own = position(info).min(Position::PreConsonant);
+    set_position(info, own);
+}
+
 /// Gives the item at a place a position, where there is one.
 #[tactic(auto, using(shaping_buffer::proofs::ClosedKeepsLemmas::clusters_written))]
 pub(crate) fn place_at(syllable: &mut [hb_glyph_info_t], place: usize, own: Position)
-    ensures { clusters syllable.new ≡ clusters syllable.old }
+    ensures is { syllable.new ≡ initial.placed_at own place syllable.old }
+    ensures same { clusters syllable.new ≡ clusters syllable.old }
 {
     if place < syllable.len() {
         set_position(&mut syllable[place], own);

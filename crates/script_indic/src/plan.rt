@@ -1,9 +1,11 @@
 //! How a text of an Indic script is shaped by a font.
 
 ghost use Rattle.std.specs.Prelude.{◌≡◌, true, false, IfOk};
+ghost use Rattle.std.specs.List.{list_any};
 ghost use Rattle.shaping_buffer.specs.KeepsClusters.{KeepsClusters};
 ghost use Rattle.script_syllables.specs.KeepsNumbers.{KeepsNumbers};
 ghost use Rattle.shaping_passes.specs.Refusals.{IsRefusal};
+ghost use Rattle.script_indic.specs.FinalBase as bases;
 ghost use Rattle.script_indic.specs.Scripts as scripts;
 
 use crate::configuration::IndicConfiguration;
@@ -16,7 +18,7 @@ use script_syllables::FontForms;
 use script_syllables::grammar::Grammar;
 use script_syllables::item::{is_ligated, is_multiplied};
 use script_syllables::syllables::find_syllables;
-use shaping_buffer::hb_buffer_t;
+use shaping_buffer::{hb_buffer_t, hb_glyph_info_t};
 use std::alloc::{AllocError, Global};
 
 /// The kind of syllables without a base.
@@ -154,11 +156,7 @@ impl IndicPlan {
         ensures closed { buffer.new.have_output ≡ false }
         ensures keeps { KeepsNumbers buffer.old buffer.new }
     {
-        let virama = if buffer
-            .info()
-            .iter()
-            .any(|info| is_ligated(info) && is_multiplied(info))
-        {
+        let virama = if has_parted_ligature(buffer.info()) {
             self.virama_glyph(font)
         } else {
             None
@@ -171,4 +169,13 @@ impl IndicPlan {
         let glyph = font.glyph_of(self.configuration.virama? as u32)?;
         if glyph == 0 { None } else { Some(glyph) }
     }
+}
+
+/// Whether a glyph came of a ligature that was taken apart.
+fn has_parted_ligature(infos: &[hb_glyph_info_t]) -> bool
+    ensures { result ≡ list_any bases.is_of_parted_ligature infos.now }
+{
+    infos
+        .iter()
+        .any(|info| is_ligated(info) && is_multiplied(info))
 }
