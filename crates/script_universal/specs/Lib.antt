@@ -4,4 +4,5 @@ pub mod Stages
 pub mod KhmerFeatures
 pub mod Masks
 pub mod MyanmarFeatures
+pub mod Order
 pub mod UniversalFeatures

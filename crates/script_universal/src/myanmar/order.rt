@@ -1,15 +1,15 @@
 //! The order of the glyphs of Myanmar syllables, before the basic features.
 
-ghost use Rattle.std.specs.Prelude.{◌≡◌, false};
+ghost use Rattle.std.specs.Prelude.{◌≡◌, ◌<◌, ◌≤◌, false, length};
 ghost use Rattle.std.specs.List.Sorted.{IsPermutation};
 ghost use Rattle.glyph_lists.specs.Clusters.{clusters};
 ghost use Rattle.shaping_buffer.specs.KeepsClusters.{KeepsClusters};
 ghost use Rattle.script_syllables.specs.KeepsNumbers.{KeepsNumbers};
+ghost use Rattle.script_universal.specs.Order.{glyphs_before};
 
 use crate::myanmar::plan::MyanmarShaper;
 use crate::myanmar::positions::set_positions;
 use crate::pauses::BROKEN;
-use script_syllables::clusters::merge;
 use script_syllables::item::position;
 use script_syllables::left_matras::turn_left_matras;
 use script_syllables::moves::move_last;
@@ -35,10 +35,21 @@ fn order_syllable(buffer: &mut hb_buffer_t, range: &Range<usize>)
     ensures keeps { KeepsNumbers buffer.old buffer.new }
 {
     place_items(buffer, range);
+    move_items(buffer, range);
+    turn_matras(buffer, range);
+}
+
+/// Moves the items of a syllable into the order of their positions.
+#[tactic(auto, using(script_syllables::proofs::NumbersLemmas::numbered))]
+fn move_items(buffer: &mut hb_buffer_t, range: &Range<usize>)
+    requires { buffer.old.have_output ≡ false }
+    ensures closed { buffer.new.have_output ≡ false }
+    ensures before { glyphs_before range.now.start buffer.new.input ≡ glyphs_before range.now.start buffer.old.input }
+    ensures keeps { KeepsNumbers buffer.old buffer.new }
+{
     for place in range.start..range.end {
         move_back(buffer, range.start, place);
     }
-    turn_matras(buffer, range);
 }
 
 /// Gives each item of a syllable its position.
@@ -82,18 +93,21 @@ fn turn_in(infos: &mut [hb_glyph_info_t], range: &Range<usize>)
 fn move_back(buffer: &mut hb_buffer_t, start: usize, place: usize)
     requires { buffer.old.have_output ≡ false }
     ensures closed { buffer.new.have_output ≡ false }
+    ensures before { glyphs_before start buffer.new.input ≡ glyphs_before start buffer.old.input }
     ensures keeps { KeepsNumbers buffer.old buffer.new }
 {
     let to = new_place(buffer.info(), start, place);
     if to < place {
         let end = place.saturating_add(1);
-        merge(buffer, to, end);
+        buffer.merge_clusters(to, end);
         move_last(buffer, to, end, 1);
     }
 }
 
 /// The place of an item behind those before it whose positions come no later.
-fn new_place(infos: &[hb_glyph_info_t], start: usize, place: usize) -> usize {
+fn new_place(infos: &[hb_glyph_info_t], start: usize, place: usize) -> usize
+    ensures { result < place → (start ≤ result) × (place < length infos.now) }
+{
     let (Some(info), Some(before)) = (infos.get(place), infos.get(start..place)) else {
         return place;
     };

@@ -1,6 +1,0 @@
-use Rattle.std.proofs.Common.{◌≡◌, false}
-use Rattle.script_syllables.specs.KeepsNumbers.{KeepsNumbers}
-use Rattle.script_universal.proofs.myanmar.order.order_syllable.Given as goal
-
-abbrev pub invariant-loop-place : goal.invariant-loop-place
-invariant-loop-place l = (l.buffer.have_output ≡ false) × KeepsNumbers l.fn.buffer l.buffer
