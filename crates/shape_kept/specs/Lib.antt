@@ -1,4 +1,5 @@
 pub mod Numbered
+pub mod Sizes
 -- what is said of a font
 pub use Rattle.font_face.specs.Face
 -- the lines of a text

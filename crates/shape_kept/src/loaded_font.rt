@@ -3,6 +3,7 @@
 ghost use Rattle.std.specs.Prelude.{◌≡◌, None, option_map, IfOk, IfSome, OnErr};
 ghost use Rattle.font_face.specs.Face.{KeepsItsTables};
 ghost use Rattle.shape_kept.specs.Numbered.{numbered_font};
+ghost use Rattle.shape_kept.specs.Sizes.{HasPixels, HasSize};
 
 use crate::kept_line::KeptLine;
 use font_face::{Face, FaceNames, Variation};
@@ -37,13 +38,15 @@ impl<'f> LoadedFont<'f> {
         ensures found { IfOk result (λ found. option_map (λ font. (font.face.tables.file.now, font.face.tables.directory)) found
             ≡ numbered_font file.now.bytes choice.index) }
         ensures keeps { IfOk result (λ found. IfSome found (λ font. KeepsItsTables font.face)) }
+        ensures size { IfOk result (λ found. IfSome found (λ font. HasSize choice.size font.face.scale)) }
+        ensures pixels { IfOk result (λ found. IfSome found (λ font. HasPixels choice.pixels font.face.scale)) }
     {
         let Some(mut face) = face_of(alloc, file.data(), choice.index)? else {
             return Ok(None);
         };
+        set_points(&mut face, choice.points);
         set_size(&mut face, choice.size);
         set_pixels(&mut face, choice.pixels);
-        set_points(&mut face, choice.points);
         face.set_named_instance(choice.named_instance)?;
         Ok(Some(LoadedFont {
             file,
@@ -106,6 +109,7 @@ fn face_of(alloc: Global, file: &[u8], index: u32) -> Result<Option<Face<'_>>, A
 
 /// Says how long an em is, where that is said.
 fn set_size(face: &mut Face<'_>, size: Option<(i32, i32)>)
+    ensures size { HasSize size face.new.scale }
     ensures tables { face.new.tables ≡ face.old.tables }
     ensures keeps { KeepsItsTables face.old → KeepsItsTables face.new }
 {
@@ -116,6 +120,7 @@ fn set_size(face: &mut Face<'_>, size: Option<(i32, i32)>)
 
 /// Says how many points an em has, where that is said.
 fn set_points(face: &mut Face<'_>, points: Option<f32>)
+    ensures points { IfSome points (λ p. face.new.points_per_em ≡ p) }
     ensures tables { face.new.tables ≡ face.old.tables }
     ensures keeps { KeepsItsTables face.old → KeepsItsTables face.new }
 {
@@ -126,6 +131,8 @@ fn set_points(face: &mut Face<'_>, points: Option<f32>)
 
 /// Says how many pixels an em has, where that is said.
 fn set_pixels(face: &mut Face<'_>, pixels: Option<(u16, u16)>)
+    ensures pixels { HasPixels pixels face.new.scale }
+    ensures size { (face.new.scale.x ≡ face.old.scale.x) × (face.new.scale.y ≡ face.old.scale.y) }
     ensures tables { face.new.tables ≡ face.old.tables }
     ensures keeps { KeepsItsTables face.old → KeepsItsTables face.new }
 {

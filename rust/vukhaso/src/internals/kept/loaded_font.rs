@@ -37,15 +37,17 @@ impl<'f> LoadedFont<'f> {
     /// ensures found { IfOk result (λ found. option_map (λ font. (font.face.tables.file.now, font.face.tables.directory)) found
     ///     ≡ numbered_font file.now.bytes choice.index) }
     /// ensures keeps { IfOk result (λ found. IfSome found (λ font. KeepsItsTables font.face)) }
+    /// ensures size { IfOk result (λ found. IfSome found (λ font. HasSize choice.size font.face.scale)) }
+    /// ensures pixels { IfOk result (λ found. IfSome found (λ font. HasPixels choice.pixels font.face.scale)) }
     /// ```
     #[inline]
     pub fn new(file: &'f FontFile, choice: FontChoice) -> Result<Option<Self>, AllocError> {
         let Some(mut face) = face_of(file.data(), choice.index)? else {
             return Ok(None);
         };
+        set_points(&mut face, choice.points);
         set_size(&mut face, choice.size);
         set_pixels(&mut face, choice.pixels);
-        set_points(&mut face, choice.points);
         face.set_named_instance(choice.named_instance)?;
         Ok(Some(LoadedFont {
             file,

@@ -21,14 +21,24 @@ pub(crate) fn set_positions(syllable: &mut [hb_glyph_info_t], base: &Base, plan:
 
 /// Gives the base its position, and the items before it theirs.
 fn place_base(syllable: &mut [hb_glyph_info_t], base: &Base) {
-    for place in 0..base.place.min(syllable.len()) {
-        let own = position(&syllable[place]).min(Position::PreConsonant);
-        set_position(&mut syllable[place], own);
-    }
+    place_before(syllable, base.place);
     place_at(syllable, base.place, Position::Base);
     if base.has_reph {
         place_at(syllable, 0, Position::Reph);
     }
+}
+
+/// Gives the items before the base their positions.
+fn place_before(syllable: &mut [hb_glyph_info_t], base: usize) {
+    for place in 0..base.min(syllable.len()) {
+        place_one_before(&mut syllable[place]);
+    }
+}
+
+/// Gives an item before the base its position.
+fn place_one_before(info: &mut hb_glyph_info_t) {
+    let own = position(info).min(Position::PreConsonant);
+    set_position(info, own);
 }
 
 /// Gives the item at a place a position, where there is one.

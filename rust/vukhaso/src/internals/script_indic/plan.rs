@@ -2,7 +2,7 @@
 
 //! How a text of an Indic script is shaped by a font.
 
-use crate::buffer::hb_buffer_t;
+use crate::buffer::{hb_buffer_t, hb_glyph_info_t};
 use crate::common::{Script, Tag, script};
 use crate::memory::AllocError;
 use crate::ot_map::Pause;
@@ -173,11 +173,7 @@ impl IndicPlan {
     /// - `buffer.old.have_output ≡ false`
     fn final_reordering<F: FontForms>(&self, buffer: &mut hb_buffer_t, font: &F) {
         debug_assert!(!buffer.have_output());
-        let virama = if buffer
-            .info()
-            .iter()
-            .any(|info| is_ligated(info) && is_multiplied(info))
-        {
+        let virama = if has_parted_ligature(buffer.info()) {
             self.virama_glyph(font)
         } else {
             None
@@ -190,4 +186,11 @@ impl IndicPlan {
         let glyph = font.glyph_of(self.configuration.virama? as u32)?;
         if glyph == 0 { None } else { Some(glyph) }
     }
+}
+
+/// Whether a glyph came of a ligature that was taken apart.
+fn has_parted_ligature(infos: &[hb_glyph_info_t]) -> bool {
+    infos
+        .iter()
+        .any(|info| is_ligated(info) && is_multiplied(info))
 }

@@ -3,7 +3,6 @@
 //! The order of the glyphs of Myanmar syllables, before the basic features.
 
 use crate::buffer::{hb_buffer_t, hb_glyph_info_t};
-use crate::script_syllables::clusters::merge;
 use crate::script_syllables::item::position;
 use crate::script_syllables::left_matras::turn_left_matras;
 use crate::script_syllables::moves::move_last;
@@ -31,10 +30,20 @@ impl SyllableOrder for MyanmarShaper {
 fn order_syllable(buffer: &mut hb_buffer_t, range: &Range<usize>) {
     debug_assert!(!buffer.have_output());
     place_items(buffer, range);
+    move_items(buffer, range);
+    turn_matras(buffer, range);
+}
+
+/// Moves the items of a syllable into the order of their positions.
+///
+/// # Requires
+///
+/// - `buffer.old.have_output ≡ false`
+fn move_items(buffer: &mut hb_buffer_t, range: &Range<usize>) {
+    debug_assert!(!buffer.have_output());
     for place in range.start..range.end {
         move_back(buffer, range.start, place);
     }
-    turn_matras(buffer, range);
 }
 
 /// Gives each item of a syllable its position.
@@ -79,7 +88,7 @@ fn move_back(buffer: &mut hb_buffer_t, start: usize, place: usize) {
     let to = new_place(buffer.info(), start, place);
     if to < place {
         let end = place.saturating_add(1);
-        merge(buffer, to, end);
+        buffer.merge_clusters(to, end);
         move_last(buffer, to, end, 1);
     }
 }
