@@ -1,5 +1,5 @@
 -- Hangul syllables and their jamo (the Unicode Standard, sections 3.12 and 18.6), and what is done with them by the glyphs of a font.
-use Rattle.std.specs.Prelude.{ℕ, Bool, ◌==◌, ◌||◌, ◌&&◌, ◌+◌, ◌-◌, ◌*◌, ◌/◌, ◌%◌, nat_le, if◌then◌else◌}
+use Rattle.std.specs.Prelude.{◌≡◌, ℕ, Bool, ◌==◌, ◌||◌, ◌&&◌, ◌+◌, ◌-◌, ◌*◌, ◌/◌, ◌%◌, nat_le, if◌then◌else◌}
 use Rattle.std.specs.Prelude.{Option, Some, None, not, nat_lt, List, [], ◌∷◌, length, slice_index_or, slice_set}
 use Rattle.rb_glyph.specs.declared.info.hb_glyph_info_t.{hb_glyph_info_t}
 use Rattle.glyph_lists.specs.Clusters.{zero_glyph}
@@ -7,6 +7,7 @@ use Rattle.shaping_buffer.specs.State.{State, lookahead_len}
 use Rattle.shaping_buffer.specs.ClusterStep.{merge_out_clusters, unsafe_to_break}
 use Rattle.script_items.specs.Item.{with_shaper_byte}
 use Rattle.script_items.specs.Moves.{moved}
+use Rattle.script_letters.specs.declared.hangul.text.Syllable.{Syllable}
 use Rattle.script_letters.specs.declared.hangul.syllables.Step.{Step}
 use Rattle.script_letters.specs.declared.hangul.syllables.Step.TheVariants.{Compose, Jamo, Decompose, Keep, Pass}
 
@@ -93,6 +94,10 @@ step_of has first second third =
 abbrev pub character_at : List hb_glyph_info_t → ℕ → ℕ
 character_at l place = if nat_lt place (length l) then (slice_index_or l place zero_glyph).glyph_id else 0
 
+-- what is done with the characters at the cursor
+abbrev pub step_at : (ℕ → Bool) → List hb_glyph_info_t → Step
+step_at has l = step_of has (character_at l 0) (character_at l 1) (character_at l 2)
+
 -- how many characters from a syllable on may not be broken apart, where a trailing consonant follows one without: both, unless the font
 -- has its jamo and the consonant composes with none
 abbrev pub unsafe_before_trailing : Step → ℕ × ℕ × ℕ → ℕ → ℕ
@@ -132,6 +137,10 @@ jamo_merged start s =
 
 abbrev pub jamo_ended : ℕ → State → State
 jamo_ended start s = jamo_merged start (record s { out = numbered start s.out })
+
+-- no glyph was put out that a tone mark belongs to
+abbrev pub IsEmpty : Syllable → Type 0
+IsEmpty s = s.end ≡ s.start
 
 -- a tone mark without a syllable stands before a dotted circle, or behind it if it has no width
 abbrev pub on_circle : ℕ → Bool → List ℕ

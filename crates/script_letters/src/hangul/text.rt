@@ -1,11 +1,12 @@
 //! The syllables of a text.
 
-ghost use Rattle.std.specs.Prelude.{◌≡◌, ◌<◌, ◌≤◌, ◌+◌, false, true, length, IfOk, None};
+ghost use Rattle.std.specs.Prelude.{◌≡◌, ◌<◌, ◌≤◌, ◌+◌, false, true, length, IfOk, IfSome, None};
 ghost use Rattle.shaping_buffer.specs.KeepsClusters.{KeepsClusters};
 ghost use Rattle.glyph_lists.specs.Clusters.{clusters};
 ghost use Rattle.shaping_buffer.specs.State.{len};
 ghost use Rattle.shaping_passes.specs.Refusals.{IsRefusal};
 ghost use Rattle.script_letters.specs.Hangul as hangul;
+ghost use Rattle.script_letters.specs.declared.hangul.syllables.Step.TheVariants.{Pass};
 
 use crate::hangul::jamo::is_tone;
 use crate::hangul::syllables::{Step, next_step, unsafe_length};
@@ -78,6 +79,7 @@ fn read_syllable<F: FontGlyphs>(
     requires opened { buffer.old.have_output ≡ true }
     requires glyph { 0 < length buffer.old.input }
     ensures opened { IfOk result (λ _. buffer.new.have_output ≡ true) }
+    ensures passed { hangul.step_at (F.has font.now) buffer.old.input ≡ Pass → IfOk result (λ next. IfSome next hangul.IsEmpty) }
     ensures refusal { IsRefusal None result buffer.new }
     ensures keeps { KeepsClusters buffer.old buffer.new }
 {
