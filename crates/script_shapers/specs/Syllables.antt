@@ -1,5 +1,7 @@
 -- Which plan of syllables a shaper has.
-use Rattle.std.specs.Prelude.{Bool, true, false}
+use Rattle.std.specs.Prelude.{◌≡◌, ⊤, Bool, true, false}
+use Rattle.ot_map.specs.declared.plan.LayoutPlan.{LayoutPlan}
+use Rattle.script_universal.specs.Masks.{AreFormMasks, no_forms}
 use Rattle.script_shapers.specs.declared.shaper.ScriptShaper.{ScriptShaper}
 use Rattle.script_shapers.specs.declared.shaper.ScriptShaper.TheVariants as shaper
 use Rattle.script_shapers.specs.declared.syllables.SyllablePlan.{SyllablePlan}
@@ -20,3 +22,10 @@ is_plan_of shaper.Thai plan.None = true
 is_plan_of shaper.Zawgyi plan.None = true
 is_plan_of shaper.Plain plan.None = true
 is_plan_of _ _ = false
+
+-- A plan of the universal shaper has the masks of the forms of syllables, but not where letters join by themselves: those have forms
+-- of their own.
+abbrev pub HasForms : LayoutPlan → ScriptShaper → SyllablePlan → Type 0
+HasForms layout shaper.Universal (plan.Universal universal) = AreFormMasks layout universal.forms
+HasForms layout shaper.UniversalJoining (plan.Universal universal) = universal.forms ≡ no_forms
+HasForms _ _ _ = ⊤

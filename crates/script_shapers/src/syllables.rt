@@ -2,7 +2,7 @@
 
 ghost use Rattle.std.specs.Prelude.{◌≡◌, true, false, IfOk};
 ghost use Rattle.shaping_buffer.specs.KeepsClusters.{KeepsClusters};
-ghost use Rattle.script_shapers.specs.Syllables.{is_plan_of};
+ghost use Rattle.script_shapers.specs.Syllables.{HasForms, is_plan_of};
 ghost use Rattle.script_syllables.specs.KeepsNumbers.{KeepsNumbers};
 ghost use Rattle.shaping_passes.specs.Refusals.{IsRefusal};
 
@@ -85,7 +85,8 @@ pub fn syllable_plan(
     script: Option<Script>,
     layout: &LayoutPlan,
 ) -> SyllablePlan
-    ensures { is_plan_of shaper result ≡ true }
+    ensures shaper { is_plan_of shaper result ≡ true }
+    ensures forms { HasForms layout.now shaper result }
 {
     match shaper {
         ScriptShaper::Indic => SyllablePlan::Indic(script_indic::features::plan(script, layout)),
