@@ -1,11 +1,13 @@
 -- Marks of Arabic: those that belong next to their letter (Unicode Technical Report 53; HarfBuzz, `reorder_marks_arabic`), and those
 -- that are stretched over a word (`record_stch`, `apply_stch`).
 use Rattle.std.specs.Prelude.{ℕ, ◌+◌, ◌-◌, ◌%◌, ◌==◌, ◌&&◌, ◌||◌, Bool, not, List, take, drop, map, nat_le, nat_lt, bit_and, bit_or}
-use Rattle.std.specs.Prelude.{if◌then◌else◌}
+use Rattle.std.specs.Prelude.{if◌then◌else◌, ℤ, pos, fold}
+use Rattle.std.specs.Int.{int_wrapping_add, int_wrapping_sub, w64}
 use Rattle.std.specs.List.{list_any, prefix_len}
 use Rattle.rb_glyph.specs.Fields.{field}
 use Rattle.rb_glyph.specs.declared.flag_sets.TheConstants.GlyphPropsFlags.{MULTIPLIED}
 use Rattle.rb_glyph.specs.declared.info.hb_glyph_info_t.{hb_glyph_info_t}
+use Rattle.rb_glyph.specs.declared.position.GlyphPosition.{GlyphPosition}
 use Rattle.rb_glyph.specs.declared.scratch.TheConstants.{HB_BUFFER_SCRATCH_FLAG_SHAPER0}
 use Rattle.glyph_lists.specs.Parts.{map_range}
 use Rattle.shaping_buffer.specs.State.{State, len}
@@ -113,3 +115,13 @@ is_word_category c =
 -- and of characters that are invisible by default
 abbrev pub is_of_word : hb_glyph_info_t → Bool
 is_of_word g = not (is_piece g) && (is_default_ignorable g || is_word_category (category g))
+
+-- where a piece is drawn, and where the next one: in lines that run to the left the offset is its right side
+abbrev pub piece_places : Bool → ℤ → ℤ → ℤ × ℤ
+piece_places is_right_to_left width offset =
+    if is_right_to_left then (int_wrapping_sub w64 offset width, int_wrapping_sub w64 offset width)
+    else (offset, int_wrapping_add w64 offset width)
+
+-- how far the line goes on over glyphs
+abbrev pub width_of : List GlyphPosition → ℤ
+width_of ps = fold (λ sum p. int_wrapping_add w64 sum p.x_advance) (pos 0) ps

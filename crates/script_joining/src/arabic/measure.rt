@@ -1,6 +1,6 @@
 //! How far a mark is stretched over a word (OpenType, feature `stch`).
 
-ghost use Rattle.std.specs.Prelude.{◌≡◌, ◌≤◌, length};
+ghost use Rattle.std.specs.Prelude.{◌≡◌, ◌≤◌, ◌-◌, length, drop, take};
 ghost use Rattle.script_joining.specs.ArabicMarks as arabic;
 
 use rb_glyph::hb_gc::*;
@@ -65,20 +65,16 @@ pub(crate) fn last_stretch<F: FontGlyphs>(
     positions: &[GlyphPosition],
     end: usize,
     font: &F,
-) -> Option<Stretch> {
+) -> Option<Stretch>
+    requires { length positions.now ≡ length infos.now }
+{
     let end = run_start(infos, end.min(infos.len()), |info| !is_piece(info));
     let start = run_start(infos, end, is_piece);
     if start == end {
         return None;
     }
     let word = run_start(infos, start, is_of_word);
-    let mut widths = Widths::default();
-    for position in positions.iter().take(start).skip(word) {
-        widths.word = widths.word.wrapping_add(i64::from(position.x_advance));
-    }
-    for info in infos.iter().take(end).skip(start) {
-        add_piece(&mut widths, info, font);
-    }
+    let widths = measured(infos, positions, font, word, start, end);
     let fit = fitted(&widths, font.is_mirrored());
     Some(Stretch {
         word,
@@ -89,6 +85,51 @@ pub(crate) fn last_stretch<F: FontGlyphs>(
         overlap: fit.overlap,
         offset: fit.left / 2,
     })
+}
+
+/// The widths of the word from a place up to another, and of the pieces behind it.
+fn measured<F: FontGlyphs>(
+    infos: &[hb_glyph_info_t],
+    positions: &[GlyphPosition],
+    font: &F,
+    word: usize,
+    start: usize,
+    end: usize,
+) -> Widths
+    requires order { word ≤ start }
+    requires behind { start ≤ end }
+    requires within { end ≤ length positions.now }
+    ensures { result.word ≡ arabic.width_of (take (start - word) (drop word positions.now)) }
+{
+    Widths {
+        word: width_of(&positions[word..start]),
+        ..pieces_widths(infos, start, end, font)
+    }
+}
+
+/// How far the line goes on over these glyphs.
+fn width_of(positions: &[GlyphPosition]) -> i64
+    ensures { result ≡ arabic.width_of positions.now }
+{
+    let mut width = 0i64;
+    for position in positions {
+        width = width.wrapping_add(i64::from(position.x_advance));
+    }
+    width
+}
+
+/// The widths of the pieces from a place up to another.
+fn pieces_widths<F: FontGlyphs>(
+    infos: &[hb_glyph_info_t],
+    start: usize,
+    end: usize,
+    font: &F,
+) -> Widths {
+    let mut widths = Widths::default();
+    for info in infos.iter().take(end).skip(start) {
+        add_piece(&mut widths, info, font);
+    }
+    widths
 }
 
 /// Where the items begin that pass a test and end at a place.

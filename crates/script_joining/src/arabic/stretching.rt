@@ -1,6 +1,6 @@
 //! Marks that are stretched over a word: their pieces are repeated behind the glyphs of the word (OpenType, feature `stch`).
 
-ghost use Rattle.std.specs.Prelude.{◌≡◌, ◌≤◌, ◌<◌, false, true, length, map, IfOk, IsSome, None};
+ghost use Rattle.std.specs.Prelude.{◌≡◌, ◌≤◌, ◌<◌, false, true, length, map, IfOk, IfSome, IsSome, None};
 ghost use Rattle.std.specs.List.{list_any};
 ghost use Rattle.shaping_buffer.specs.KeepsClusters.{KeepsClusters};
 ghost use Rattle.shaping_passes.specs.Refusals.{IsRefusal};
@@ -124,6 +124,7 @@ pub fn stretch<F: FontGlyphs>(
     requires placed { IsSome buffer.old.positions }
     ensures closed { IfOk result (λ done. done ≡ true → buffer.new.have_output ≡ false) }
     ensures placed { IfOk result (λ done. done ≡ true → IsSome buffer.new.positions) }
+    ensures done { IfOk result (λ done. done ≡ true → buffer.new.successful ≡ buffer.old.successful) }
     ensures refusal { IsRefusal false result buffer.new }
     ensures keeps { KeepsClusters buffer.old buffer.new }
 {
@@ -146,6 +147,7 @@ fn stretched_line<F: FontGlyphs>(
     requires placed { IsSome buffer.old.positions }
     ensures closed { buffer.new.have_output ≡ false }
     ensures placed { IsSome buffer.new.positions }
+    ensures done { IfOk result (λ line. IfSome line (λ _. buffer.new.successful ≡ buffer.old.successful)) }
     ensures refusal { IsRefusal None result buffer.new }
     ensures keeps { KeepsClusters buffer.old buffer.new }
 {
@@ -166,6 +168,7 @@ fn stretched_backwards<F: FontGlyphs>(
     requires placed { IsSome buffer.old.positions }
     ensures closed { buffer.new.have_output ≡ false }
     ensures placed { IsSome buffer.new.positions }
+    ensures done { IfOk result (λ line. IfSome line (λ _. buffer.new.successful ≡ buffer.old.successful)) }
     ensures refusal { IsRefusal None result buffer.new }
     ensures keeps { KeepsClusters buffer.old buffer.new }
 {
@@ -186,6 +189,7 @@ fn stretched_text<F: FontGlyphs>(
     requires placed { IsSome buffer.old.positions }
     ensures closed { buffer.new.have_output ≡ false }
     ensures placed { IsSome buffer.new.positions }
+    ensures done { IfOk result (λ line. IfSome line (λ _. buffer.new.successful ≡ buffer.old.successful)) }
     ensures refusal { IsRefusal None result buffer.new }
     ensures keeps { KeepsClusters buffer.old buffer.new }
 {
@@ -205,6 +209,7 @@ fn flag_words(buffer: &mut hb_buffer_t, stretches: &[Stretch])
     requires placed { IsSome buffer.old.positions }
     ensures closed { buffer.new.have_output ≡ false }
     ensures placed { IsSome buffer.new.positions }
+    ensures allowed { buffer.new.successful ≡ buffer.old.successful }
     ensures keeps { KeepsClusters buffer.old buffer.new }
 {
     for stretch in stretches {
@@ -220,7 +225,8 @@ fn stretches_of<F: FontGlyphs>(
     buffer: &hb_buffer_t,
     font: &F,
 ) -> Result<Vec<Stretch>, AllocError>
-    requires { IsSome buffer.now.positions }
+    requires closed { buffer.now.have_output ≡ false }
+    requires placed { IsSome buffer.now.positions }
 {
     let infos = buffer.info();
     let positions = buffer.pos();
@@ -354,12 +360,7 @@ impl Stretched {
         width: i64,
         offset: i64,
     ) -> Result<i64, AllocError> {
-        let (place, next) = if self.is_right_to_left {
-            let place = offset.wrapping_sub(width);
-            (place, place)
-        } else {
-            (offset, offset.wrapping_add(width))
-        };
+        let (place, next) = piece_places(self.is_right_to_left, width, offset);
         self.positions.push(GlyphPosition {
             x_advance: 0,
             x_offset: i32::try_from(place).unwrap_or(0),
@@ -374,6 +375,7 @@ impl Stretched {
         requires { buffer.old.have_output ≡ false }
         ensures closed { IfOk result (λ done. done ≡ true → buffer.new.have_output ≡ false) }
         ensures placed { IfOk result (λ done. done ≡ true → IsSome buffer.new.positions) }
+        ensures done { IfOk result (λ done. done ≡ true → buffer.new.successful ≡ buffer.old.successful) }
         ensures refusal { IsRefusal false result buffer.new }
         ensures keeps { KeepsClusters buffer.old buffer.new }
     {
@@ -383,6 +385,18 @@ impl Stretched {
         buffer.clear_positions();
         put_positions(buffer.pos_mut(), self.positions.as_slice());
         Ok(true)
+    }
+}
+
+/// Where a piece that is so wide is drawn, and where the next one.
+fn piece_places(is_right_to_left: bool, width: i64, offset: i64) -> (i64, i64)
+    ensures { result ≡ arabic.piece_places is_right_to_left width offset }
+{
+    if is_right_to_left {
+        let place = offset.wrapping_sub(width);
+        (place, place)
+    } else {
+        (offset, offset.wrapping_add(width))
     }
 }
 
@@ -398,6 +412,7 @@ fn put_positions(places: &mut [GlyphPosition], positions: &[GlyphPosition]) {
 fn repeat_glyphs(buffer: &mut hb_buffer_t, counts: &[usize]) -> Result<bool, AllocError>
     requires { buffer.old.have_output ≡ false }
     ensures closed { IfOk result (λ done. done ≡ true → buffer.new.have_output ≡ false) }
+    ensures done { IfOk result (λ done. done ≡ true → buffer.new.successful ≡ buffer.old.successful) }
     ensures refusal { IsRefusal false result buffer.new }
     ensures keeps { KeepsClusters buffer.old buffer.new }
 {
@@ -415,6 +430,7 @@ fn repeat_glyphs(buffer: &mut hb_buffer_t, counts: &[usize]) -> Result<bool, All
 fn repeat_glyph(buffer: &mut hb_buffer_t, count: usize) -> Result<bool, AllocError>
     requires { buffer.old.have_output ≡ true }
     ensures opened { IfOk result (λ _. buffer.new.have_output ≡ true) }
+    ensures done { IfOk result (λ done. done ≡ true → buffer.new.successful ≡ buffer.old.successful) }
     ensures refusal { IsRefusal false result buffer.new }
     ensures keeps { KeepsClusters buffer.old buffer.new }
 {

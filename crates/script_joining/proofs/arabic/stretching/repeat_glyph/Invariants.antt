@@ -4,4 +4,5 @@ use Rattle.script_joining.proofs.arabic.stretching.repeat_glyph.Given as goal
 
 abbrev pub invariant-loop-turn : goal.invariant-loop-turn
 invariant-loop-turn l =
-    (l.buffer.have_output ≡ true) × (0 < length l.buffer.input) × KeepsClusters l.fn.buffer l.buffer
+    (l.buffer.have_output ≡ true) × (0 < length l.buffer.input) × (l.buffer.successful ≡ l.fn.buffer.successful)
+    × KeepsClusters l.fn.buffer l.buffer

@@ -4,4 +4,5 @@ use Rattle.script_joining.proofs.arabic.stretching.repeat_glyphs.Given as goal
 
 abbrev pub invariant-loop-count : goal.invariant-loop-count
 invariant-loop-count l =
-    (l.buffer.have_output ≡ true) × KeepsClusters l.fn.buffer l.buffer
+    (l.buffer.have_output ≡ true) × (l.buffer.successful ≡ l.fn.buffer.successful)
+    × KeepsClusters l.fn.buffer l.buffer
