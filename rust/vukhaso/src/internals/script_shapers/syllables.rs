@@ -107,7 +107,8 @@ impl SyllablePlan {
 /// # Proved
 ///
 /// ```text
-/// ensures { is_plan_of shaper result ≡ true }
+/// ensures shaper { is_plan_of shaper result ≡ true }
+/// ensures forms { HasForms layout.now shaper result }
 /// ```
 #[inline]
 pub fn syllable_plan(

@@ -57,25 +57,24 @@ fn is_piece(info: &hb_glyph_info_t) -> bool {
 }
 
 /// The last mark in pieces that ends at `end` or before.
+///
+/// # Requires
+///
+/// - `length positions.now ≡ length infos.now`
 pub(crate) fn last_stretch<F: FontGlyphs>(
     infos: &[hb_glyph_info_t],
     positions: &[GlyphPosition],
     end: usize,
     font: &F,
 ) -> Option<Stretch> {
+    debug_assert!(positions.len() == infos.len());
     let end = run_start(infos, end.min(infos.len()), |info| !is_piece(info));
     let start = run_start(infos, end, is_piece);
     if start == end {
         return None;
     }
     let word = run_start(infos, start, is_of_word);
-    let mut widths = Widths::default();
-    for position in positions.iter().take(start).skip(word) {
-        widths.word = widths.word.wrapping_add(i64::from(position.x_advance));
-    }
-    for info in infos.iter().take(end).skip(start) {
-        add_piece(&mut widths, info, font);
-    }
+    let widths = measured(infos, positions, font, word, start, end);
     let fit = fitted(&widths, font.is_mirrored());
     Some(Stretch {
         word,
@@ -86,6 +85,53 @@ pub(crate) fn last_stretch<F: FontGlyphs>(
         overlap: fit.overlap,
         offset: fit.left / 2,
     })
+}
+
+/// The widths of the word from a place up to another, and of the pieces behind it.
+///
+/// # Requires
+///
+/// - `order: word ≤ start`
+/// - `behind: start ≤ end`
+/// - `within: end ≤ length positions.now`
+fn measured<F: FontGlyphs>(
+    infos: &[hb_glyph_info_t],
+    positions: &[GlyphPosition],
+    font: &F,
+    word: usize,
+    start: usize,
+    end: usize,
+) -> Widths {
+    debug_assert!(word <= start);
+    debug_assert!(start <= end);
+    debug_assert!(end <= positions.len());
+    Widths {
+        word: width_of(&positions[word..start]),
+        ..pieces_widths(infos, start, end, font)
+    }
+}
+
+/// How far the line goes on over these glyphs.
+fn width_of(positions: &[GlyphPosition]) -> i64 {
+    let mut width = 0i64;
+    for position in positions {
+        width = width.wrapping_add(i64::from(position.x_advance));
+    }
+    width
+}
+
+/// The widths of the pieces from a place up to another.
+fn pieces_widths<F: FontGlyphs>(
+    infos: &[hb_glyph_info_t],
+    start: usize,
+    end: usize,
+    font: &F,
+) -> Widths {
+    let mut widths = Widths::default();
+    for info in infos.iter().take(end).skip(start) {
+        add_piece(&mut widths, info, font);
+    }
+    widths
 }
 
 /// Where the items begin that pass a test and end at a place.

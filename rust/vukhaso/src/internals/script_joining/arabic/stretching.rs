@@ -119,6 +119,7 @@ fn component(info: &hb_glyph_info_t) -> u8 {
 /// ```text
 /// ensures closed { IfOk result (λ done. done ≡ true → buffer.new.have_output ≡ false) }
 /// ensures placed { IfOk result (λ done. done ≡ true → IsSome buffer.new.positions) }
+/// ensures done { IfOk result (λ done. done ≡ true → buffer.new.successful ≡ buffer.old.successful) }
 /// ensures refusal { IsRefusal false result buffer.new }
 /// ensures keeps { KeepsClusters buffer.old buffer.new }
 /// ```
@@ -214,8 +215,10 @@ fn flag_words(buffer: &mut hb_buffer_t, stretches: &[Stretch]) {
 ///
 /// # Requires
 ///
-/// - `IsSome buffer.now.positions`
+/// - `closed: buffer.now.have_output ≡ false`
+/// - `placed: IsSome buffer.now.positions`
 fn stretches_of<F: FontGlyphs>(buffer: &hb_buffer_t, font: &F) -> Result<Vec<Stretch>, AllocError> {
+    debug_assert!(!buffer.have_output());
     debug_assert!(buffer.have_positions());
     let infos = buffer.info();
     let positions = buffer.pos();
@@ -351,12 +354,7 @@ impl Stretched {
         width: i64,
         offset: i64,
     ) -> Result<i64, AllocError> {
-        let (place, next) = if self.is_right_to_left {
-            let place = offset.wrapping_sub(width);
-            (place, place)
-        } else {
-            (offset, offset.wrapping_add(width))
-        };
+        let (place, next) = piece_places(self.is_right_to_left, width, offset);
         self.positions.push(GlyphPosition {
             x_advance: 0,
             x_offset: i32::try_from(place).unwrap_or(0),
@@ -378,6 +376,16 @@ impl Stretched {
         buffer.clear_positions();
         put_positions(buffer.pos_mut(), self.positions.as_slice());
         Ok(true)
+    }
+}
+
+/// Where a piece that is so wide is drawn, and where the next one.
+fn piece_places(is_right_to_left: bool, width: i64, offset: i64) -> (i64, i64) {
+    if is_right_to_left {
+        let place = offset.wrapping_sub(width);
+        (place, place)
+    } else {
+        (offset, offset.wrapping_add(width))
     }
 }
 
