@@ -19,6 +19,7 @@ from functools import lru_cache
 
 import edit_contracts
 import edit_copies
+from libraries import CRATES
 from rattle_source import every
 from scratch import PARTS, ROOT, Waiting, libraries, run, side_by_side, with_below
 from wrong_bodies import changed_functions, functions_of, is_named, is_of_a_goal, left_open, readers_of, speaks_of, texts_with
@@ -99,6 +100,14 @@ class Batch:
     edits: list = field(default_factory=list)
     texts: dict = field(default_factory=dict)
 
+    @property
+    def crate(self):
+        return self.edits[0].crate
+
+    @property
+    def functions(self):
+        return [it for edit in self.edits for it in tried_functions(edit)]
+
 
 def apart(edits, calls):
     """Of each edit those that cannot be planted with it: one of a function that calls the other's, or whose text is in the way.
@@ -136,13 +145,33 @@ def batches_of(crate, edits):
     return batches
 
 
+def joined(batches, below):
+    """These batches in lists for one check each. No crate of a list stands on another, whose functions would be without their proofs."""
+    lists = []
+    is_apart = lambda one, other: one != other and one not in below[other] and other not in below[one]
+    for batch in batches:
+        name = batch.crate.name
+        fits = lambda it: len(it) < CRATES and all(is_apart(name, other.crate.name) for other in it)
+        taken = next(filter(fits, reversed(lists)), None) if batch.functions else None
+        if taken is None:
+            lists.append([batch])
+        else:
+            taken.append(batch)
+    return lists
+
+
 # The tries.
+
+
+def tried_functions(edit):
+    """The functions that a check of the edit tries: those that it changes, or those that use the table that it changes."""
+    return changed_functions(edit) or users_of_table(edit)
 
 
 def refused_in(edit, lines):
     """The function of the edit that this check leaves open at a goal of its own, or None."""
-    left = left_open(lines)
-    for it in changed_functions(edit):
+    left = [path for path in left_open(lines) if path.startswith(f"{edit.crate.name}::")]
+    for it in tried_functions(edit):
         name = it.printed(edit.crate)
         if any(is_named(path, name) for path in left):
             if any(is_of_a_goal(line) and speaks_of(line, it, edit.crate) for line in lines):
@@ -303,19 +332,21 @@ class Tries:
         self.ends = self.begun + seconds
         self.passed, self.failed, self.left, self.number = 0, 0, 0, 0
 
-    def try_batch(self, batch):
-        """The edits of a batch, each with whether it is refused, or None where that is not known, and the words for it. What
-        calls the functions that are changed is not checked, and what they call goes by its contract."""
+    def try_batches(self, batches):
+        """The edits of these batches, each with whether it is refused, or None where that is not known, and the words for it. What
+        calls the functions that are tried is not checked, and what they call goes by its contract."""
+        edits = [edit for batch in batches for edit in batch.edits]
         if time.monotonic() > self.ends:
-            self.left += len(batch.edits)
+            self.left += len(edits)
             return []
-        if not changed_functions(batch.edits[0]):
-            return self.try_alone(batch.edits[0])
-        crate = batch.edits[0].crate
-        changed = [it for edit in batch.edits for it in changed_functions(edit)]
-        texts = edit_contracts.by_contract(crate, batch.texts, {it.key for it in changed})
-        lines = tried(self.place, batch.edits, texts, printed(changed, crate), edit_contracts.WORDS)
-        names = [(edit, refused_in(edit, lines)) for edit in batch.edits]
+        if not batches[0].functions:
+            return self.try_alone(edits[0])
+        texts, names = {}, []
+        for batch in batches:
+            texts |= edit_contracts.by_contract(batch.crate, batch.texts, {it.key for it in batch.functions})
+            names += printed(batch.functions, batch.crate)
+        lines = tried(self.place, edits, texts, names, edit_contracts.WORDS)
+        names = [(edit, refused_in(edit, lines)) for edit in edits]
         return [(edit, True, f"refused in {name}") if name else (edit, None, "") for edit, name in names]
 
     def try_copies(self, copies):
@@ -337,9 +368,11 @@ class Tries:
         """The tasks that try these edits."""
         chunks, others = chunks_of(self.place, edits)
         found = [self.task([it.edit for it in chunk], lambda chunk=chunk: self.try_copies(chunk)) for chunk in chunks]
-        for crate in sorted({edit.crate for edit in others}):
-            batches = batches_of(crate, [edit for edit in others if edit.crate == crate])
-            found += [self.task(batch.edits, lambda batch=batch: self.try_batch(batch)) for batch in batches]
+        of_crate = lambda name: [edit for edit in others if edit.crate.name == name]
+        batches = [batch for name in self.place.crates if of_crate(name) for batch in batches_of(ROOT / "crates" / name, of_crate(name))]
+        for some in joined(batches, self.place.below):
+            edits = [edit for batch in some for edit in batch.edits]
+            found.append(self.task(edits, lambda some=some: self.try_batches(some)))
         return found
 
     def task(self, edits, call):
