@@ -1,8 +1,7 @@
 //! What is kept of a line for the next one.
 
-ghost use Rattle.std.specs.Prelude.{◌≡◌, [], None, false};
+ghost use Rattle.std.specs.Prelude.{◌≡◌, None, false};
 
-use ot_plan::KeptPlans;
 use shape_lines::text::{emptied, empty_text};
 use shape_options::options::LineOptions;
 use shaping_buffer::UnicodeBuffer;
@@ -11,8 +10,6 @@ use std::alloc::Global;
 /// What is kept of a line for the next one of the same font.
 #[derive(Drop)]
 pub struct KeptLine {
-    /// The plans of its text and of those before.
-    pub plans: KeptPlans,
     /// Its buffer, emptied.
     pub text: Option<UnicodeBuffer>,
     /// Whether the shaping of a line was given up, and nothing was said of it yet.
@@ -22,12 +19,10 @@ pub struct KeptLine {
 impl KeptLine {
     /// Nothing is kept.
     pub fn new() -> Self
-        ensures plans { result.plans ≡ [] }
         ensures text { result.text ≡ None }
         ensures has_given_up { result.has_given_up ≡ false }
     {
         KeptLine {
-            plans: KeptPlans::new(),
             text: None,
             has_given_up: false,
         }
@@ -36,8 +31,7 @@ impl KeptLine {
     /// An empty text for the next line, in the buffer that is kept, if one is. In it characters that are invisible by default are
     /// to have the glyph of the options.
     pub fn take_text(&mut self, alloc: Global, options: &LineOptions<'_>) -> UnicodeBuffer
-        ensures invisible { result.invisible ≡ options.now.invisible_glyph }
-        ensures plans { self.new.plans ≡ self.old.plans }
+        ensures { result.invisible ≡ options.now.invisible_glyph }
     {
         match self.text.take() {
             Some(text) => emptied(text, options),

@@ -1,5 +1,5 @@
-//! What `vukhaso_shape` keeps: a font for all command lines in a row that name it, plans and a buffer from line to line, and the steps
-//! of shaping a line.
+//! What `vukhaso_shape` keeps: a font for all command lines in a row that name it, a buffer from line to line, and the steps of shaping
+//! a line.
 #![tactic(auto)]
 
 pub mod kept_line;

@@ -5,7 +5,6 @@ ghost use Rattle.shape_lines.specs.Lines.{IsTrace};
 
 use line_formats::characters::characters_list;
 use line_formats::heads::{Shown, head};
-use ot_plan::{Step, Watch};
 use shape_fonts::synthetic_font::{LineNames, SyntheticFont};
 use shape_glyphs::edits::buffer_of;
 use shape_lines::answers::Answer;
@@ -14,6 +13,7 @@ use shape_lines::text::empty_text;
 use shape_options::options::LineOptions;
 use shape_options::output::Output;
 use shaping_buffer::{Flags, GlyphPosition, SerializeFlags, hb_buffer_t, hb_glyph_info_t};
+use shaping_steps::{Step, Watch};
 use std::alloc::{AllocError, Global};
 use std::fmt::Write;
 
@@ -107,22 +107,10 @@ fn write_steps<N: LineNames>(
     let before = head(alloc, shown, number, b"", b"")?;
     for told in trace.steps.iter() {
         text.extend_from_slice(before.as_slice())?;
-        write_step(alloc, printer, names, told, text)?;
+        write_words(alloc, told.step, text)?;
+        write_items(alloc, printer, names, told, text)?;
+        text.push(b'\n')?;
     }
-    Ok(())
-}
-
-/// Writes a step, and the items that it left.
-fn write_step<N: LineNames>(
-    alloc: Global,
-    printer: &StepPrinter<'_>,
-    names: &mut N,
-    told: &Told,
-    text: &mut Vec<u8>,
-) -> Result<(), AllocError> {
-    write_words(alloc, told.step, text)?;
-    write_items(alloc, printer, names, told, text)?;
-    text.push(b'\n')?;
     Ok(())
 }
 

@@ -5,9 +5,10 @@
 
 mod rounds;
 
+use crate::answers::ending::NAME;
+use crate::answers::run::shaper_of;
 use crate::clap::{Arg, ArgMatches};
 use crate::command::ending;
-use crate::command::run::shaper_of;
 use crate::fonts::font_file::FontFile;
 use crate::host::io::{BufRead, BufReader, BufWriter};
 use crate::host::{Env, Host, fs};
@@ -101,7 +102,7 @@ fn conclude(matches: &ArgMatches<'_>, words: &[String]) -> ExitCode {
         Err(error) => error,
     };
     // Where standard error fails too, there is no place left to say it.
-    let _ = writeln!(io::stderr(), "{}: {why}", ending::NAME);
+    let _ = writeln!(io::stderr(), "{}: {why}", NAME);
     ExitCode::FAILURE
 }
 

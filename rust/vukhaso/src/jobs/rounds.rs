@@ -1,7 +1,8 @@
 //! Rounds of lines, which threads answer.
 
-use crate::command::lines::answer_lines;
-use crate::command::shaper::{LineShaper, LineState};
+use crate::answers::lines::answer_lines;
+use crate::answers::shaper::{LineShaper, LineState};
+use crate::command::opentype::OpenTypeShaper;
 use crate::host::Host;
 use crate::host::io::BufRead;
 use crate::kept::kept_line::KeptLine;
@@ -30,7 +31,7 @@ pub(super) struct Shaped {
 /// Threads that answer lines, each with what it keeps of the line before.
 pub(super) struct Rounds<'a> {
     shaper: LineShaper<'a>,
-    states: Vec<LineState<'a, FaceNames<'a>>>,
+    states: Vec<LineState<'a, FaceNames<'a>, OpenTypeShaper>>,
 }
 
 impl<'a> Rounds<'a> {
@@ -41,6 +42,7 @@ impl<'a> Rounds<'a> {
             let (names, kept) = (FaceNames::new(shaper.face)?, KeptLine::new());
             let advances = shaper.advances();
             states.push(LineState {
+                texts: OpenTypeShaper::new(),
                 names,
                 kept,
                 advances,
@@ -161,7 +163,7 @@ fn pieces_of(mut lines: &[u8], pieces: usize) -> Result<Vec<Piece<'_>>, AllocErr
 /// Answers pieces until none is left.
 fn answer_pieces(
     shaper: LineShaper<'_>,
-    state: &mut LineState<'_, FaceNames<'_>>,
+    state: &mut LineState<'_, FaceNames<'_>, OpenTypeShaper>,
     rest: &Mutex<IterMut<'_, Piece<'_>>>,
 ) {
     let next = || rest.lock().unwrap_or_else(PoisonError::into_inner).next();

@@ -4,10 +4,9 @@ ghost use Rattle.std.specs.Prelude.{◌≡◌, IfOk};
 ghost use Rattle.shape_lines.specs.Answer.{answer_text};
 ghost use Rattle.shape_lines.specs.Lines.{IsAnswer, IsList};
 
-use ot_shape::{
-    Face, ShapeError, shape_watched, shape_with_functions_and_plans, shape_with_functions_watched,
-    shape_with_kept_plans,
-};
+use crate::texts::{LineFont, Shapes};
+use font_face::Face;
+use font_functions::OwnFunctions;
 use shape_fonts::fallback::shape_fallback;
 use shape_fonts::kept_advances::KeptAdvances;
 use shape_fonts::synthetic_font::{LineNames, SyntheticFont};
@@ -23,6 +22,7 @@ use shape_lines::text::{fill, lossy_text};
 use shape_options::options::{LineOptions, Shaper};
 use shape_options::output::Output;
 use shaping_buffer::{Direction, GlyphBuffer, GlyphId, UnicodeBuffer};
+use shaping_verification::ShapeError;
 use std::alloc::{AllocError, Global};
 
 /// What is printed of a line.
@@ -38,7 +38,9 @@ pub struct Answered {
 
 /// What lines are answered by that changes from line to line.
 #[derive(Drop)]
-pub struct LineState<'a, N> {
+pub struct LineState<'a, N, T> {
+    /// What shapes their texts.
+    pub texts: T,
     /// Names and extents of glyphs.
     pub names: N,
     /// What is kept of the line before.
@@ -99,10 +101,10 @@ impl<'a> LineShaper<'a> {
     }
 
     /// The answer to a line.
-    pub fn answer<N: LineNames>(
+    pub fn answer<N: LineNames, T: Shapes>(
         &self,
         alloc: Global,
-        state: &mut LineState<'_, N>,
+        state: &mut LineState<'_, N, T>,
         line: &[u8],
     ) -> Result<Answered, AllocError>
         ensures answer { IfOk result (λ answered. IsAnswer self.now.output (answer_text answered.answer)) }
@@ -118,10 +120,10 @@ impl<'a> LineShaper<'a> {
     }
 
     /// The answer to a line that is UTF-8.
-    fn answer_to_text<N: LineNames>(
+    fn answer_to_text<N: LineNames, T: Shapes>(
         &self,
         alloc: Global,
-        state: &mut LineState<'_, N>,
+        state: &mut LineState<'_, N, T>,
         line: &str,
     ) -> Result<Answered, AllocError>
         ensures answer { IfOk result (λ answered. IsAnswer self.now.output (answer_text answered.answer)) }
@@ -138,10 +140,10 @@ impl<'a> LineShaper<'a> {
     }
 
     /// What a line is answered with, which is a text or writes glyphs.
-    fn answer_to_line<N: LineNames>(
+    fn answer_to_line<N: LineNames, T: Shapes>(
         &self,
         alloc: Global,
-        state: &mut LineState<'_, N>,
+        state: &mut LineState<'_, N, T>,
         trace: &mut Trace,
         line: &str,
     ) -> Result<Answer, AllocError>
@@ -154,15 +156,32 @@ impl<'a> LineShaper<'a> {
             advances.keep_characters(line);
         }
         self.shape_unprinted(alloc, state, trace, line)?;
-        let answer = self.shape(alloc, state, trace, line)?;
-        Ok(answer)
+        match self.filled_text(alloc, state, line)? {
+            Some(text) => self.shape(alloc, state, trace, text),
+            None => Ok(Answer::Failed),
+        }
+    }
+
+    /// The text of a line, in the buffer that is kept; `None` where it is too long.
+    fn filled_text<N: LineNames, T: Shapes>(
+        &self,
+        alloc: Global,
+        state: &mut LineState<'_, N, T>,
+        line: &str,
+    ) -> Result<Option<UnicodeBuffer>, AllocError> {
+        let mut text = state.kept.take_text(alloc, self.options);
+        if fill(alloc, self.options, line, &mut text)? {
+            Ok(Some(text))
+        } else {
+            Ok(None)
+        }
     }
 
     /// The answer to a line that writes glyphs.
-    fn answer_to_glyphs<N: LineNames>(
+    fn answer_to_glyphs<N: LineNames, T: Shapes>(
         &self,
         alloc: Global,
-        state: &mut LineState<'_, N>,
+        state: &mut LineState<'_, N, T>,
         line: &str,
     ) -> Result<Answer, AllocError>
         ensures { IfOk result (λ answer. IsAnswer self.now.output (answer_text answer)) }
@@ -184,18 +203,17 @@ impl<'a> LineShaper<'a> {
     }
 
     /// Shapes a line once less than is asked for: what it gives is not printed.
-    fn shape_unprinted<N: LineNames>(
+    fn shape_unprinted<N: LineNames, T: Shapes>(
         &self,
         alloc: Global,
-        state: &mut LineState<'_, N>,
+        state: &mut LineState<'_, N, T>,
         trace: &mut Trace,
         line: &str,
     ) -> Result<(), AllocError> {
         for _ in 1..self.iterations {
-            let mut text = state.kept.take_text(alloc, self.options);
-            if !fill(alloc, self.options, line, &mut text)? {
+            let Some(text) = self.filled_text(alloc, state, line)? else {
                 return Ok(());
-            }
+            };
             match self.shape_text(state, trace, text) {
                 Ok(glyphs) => state.kept.text = Some(glyphs.clear()),
                 Err(ShapeError::Memory) => return Err(AllocError),
@@ -205,20 +223,16 @@ impl<'a> LineShaper<'a> {
         Ok(())
     }
 
-    /// What a line is answered with.
-    fn shape<N: LineNames>(
+    /// What the text of a line is answered with.
+    fn shape<N: LineNames, T: Shapes>(
         &self,
         alloc: Global,
-        state: &mut LineState<'_, N>,
+        state: &mut LineState<'_, N, T>,
         trace: &mut Trace,
-        line: &str,
+        text: UnicodeBuffer,
     ) -> Result<Answer, AllocError>
         ensures { IfOk result (λ answer. IsAnswer self.now.output (answer_text answer)) }
     {
-        let mut text = state.kept.take_text(alloc, self.options);
-        if !fill(alloc, self.options, line, &mut text)? {
-            return Ok(Answer::Failed);
-        }
         let edits = self.edits(text.direction());
         match self.shape_text(state, trace, text) {
             Ok(glyphs) => self.print_edited(alloc, state, &edits, glyphs),
@@ -230,9 +244,9 @@ impl<'a> LineShaper<'a> {
     }
 
     /// Shapes a text by the shaper that is chosen.
-    fn shape_text<N: LineNames>(
+    fn shape_text<N: LineNames, T: Shapes>(
         &self,
-        state: &mut LineState<'_, N>,
+        state: &mut LineState<'_, N, T>,
         trace: &mut Trace,
         text: UnicodeBuffer,
     ) -> Result<GlyphBuffer, ShapeError> {
@@ -240,34 +254,41 @@ impl<'a> LineShaper<'a> {
             return Ok(shape_fallback(&self.font, text)?);
         }
         if self.output.trace {
-            return self.shape_traced(trace, text);
+            return self.shape_traced(&mut state.texts, trace, text);
         }
-        let features = self.options.features.as_slice();
-        let plans = &mut state.kept.plans;
         if let Some(advances) = &mut state.advances {
-            let glyphs = shape_with_functions_and_plans(
-                self.face, advances, features, plans, text,
-            )?;
+            let glyphs = state.texts.shape(&self.line_font(advances), text)?;
             advances.keep_glyphs(glyphs.glyph_infos());
             return Ok(glyphs);
         }
         if self.font.is_plain() {
-            return shape_with_kept_plans(self.face, features, plans, text);
+            let own = OwnFunctions { face: self.face };
+            return state.texts.shape(&self.line_font(&own), text);
         }
-        shape_with_functions_and_plans(self.face, &self.font, features, plans, text)
+        state.texts.shape(&self.line_font(&self.font), text)
     }
 
     /// Shapes a text, whose steps are kept to be printed.
-    fn shape_traced(
+    fn shape_traced<T: Shapes>(
         &self,
+        texts: &mut T,
         trace: &mut Trace,
         text: UnicodeBuffer,
     ) -> Result<GlyphBuffer, ShapeError> {
-        let features = self.options.features.as_slice();
         if self.font.is_plain() {
-            return shape_watched(self.face, features, text, trace);
+            let own = OwnFunctions { face: self.face };
+            return texts.shape_watched(&self.line_font(&own), text, trace);
         }
-        shape_with_functions_watched(self.face, &self.font, features, text, trace)
+        texts.shape_watched(&self.line_font(&self.font), text, trace)
+    }
+
+    /// The font of which these functions answer.
+    fn line_font<'f, F>(&self, functions: &'f F) -> LineFont<'a, 'f, 'a, F> {
+        LineFont {
+            face: self.face,
+            functions,
+            features: self.options.features.as_slice(),
+        }
     }
 
     /// What the options change of the glyphs of a text in this direction.
@@ -286,10 +307,10 @@ impl<'a> LineShaper<'a> {
     }
 
     /// What is printed of glyphs with the changes that options ask for.
-    fn print_edited<N: LineNames>(
+    fn print_edited<N: LineNames, T: Shapes>(
         &self,
         alloc: Global,
-        state: &mut LineState<'_, N>,
+        state: &mut LineState<'_, N, T>,
         edits: &Edits,
         glyphs: GlyphBuffer,
     ) -> Result<Answer, AllocError>
@@ -302,10 +323,10 @@ impl<'a> LineShaper<'a> {
     }
 
     /// What is printed of glyphs, whose buffer is kept for the next line.
-    fn print_and_keep<N: LineNames>(
+    fn print_and_keep<N: LineNames, T: Shapes>(
         &self,
         alloc: Global,
-        state: &mut LineState<'_, N>,
+        state: &mut LineState<'_, N, T>,
         glyphs: GlyphBuffer,
     ) -> Result<Answer, AllocError>
         ensures { IfOk result (λ answer. IsAnswer self.now.output (answer_text answer)) }

@@ -1,7 +1,7 @@
 use Rattle.std.proofs.Common.{◌≡◌, [], length, rules}
 use Rattle.std.proofs.lemmas.List.{nil_from_length}
-use Rattle.shape_command.proofs.LineLemmas.{no_paragraph, one_paragraph, reads_all}
-use Rattle.shape_command.proofs.lines.answer_paragraph.Goals as goal
+use Rattle.shape_answers.proofs.LineLemmas.{no_paragraph, one_paragraph, reads_all}
+use Rattle.shape_answers.proofs.lines.answer_paragraph.Goals as goal
 
 pub returns : goal.returns
 returns g c =

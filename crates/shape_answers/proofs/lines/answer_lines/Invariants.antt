@@ -1,6 +1,6 @@
 use Rattle.shape_lines.specs.Lines.{IsShown}
-use Rattle.shape_command.proofs.LineLemmas.{AnswersSoFar}
-use Rattle.shape_command.proofs.lines.answer_lines.Given as goal
+use Rattle.shape_answers.proofs.LineLemmas.{AnswersSoFar}
+use Rattle.shape_answers.proofs.lines.answer_lines.Given as goal
 
 -- each line so far has its answer
 abbrev pub invariant-loop-number : goal.invariant-loop-number

@@ -2,13 +2,15 @@
 
 ghost use Rattle.std.specs.Prelude.{◌≡◌, false};
 
-use ot_shape::{Face, FaceNames, ShapeError, Step, Watch, shape_watched};
+use crate::texts::{Asked, LineFont, Shapes};
+use font_functions::OwnFunctions;
 use shape_glyphs::picture::{Picture, RowName};
 use shape_kept::loaded_font::{LoadedFont, take_names};
 use shape_lines::errors::CommandError;
 use shape_lines::text::{empty_text, fill, given_text};
-use shape_options::options::{LineOptions, Options};
 use shaping_buffer::hb_buffer_t;
+use shaping_steps::{Step, Watch};
+use shaping_verification::ShapeError;
 use std::alloc::{AllocError, Global};
 use std::io::Write;
 
@@ -39,34 +41,21 @@ fn name_of(step: Step) -> RowName {
 }
 
 /// Draws the steps of shaping a text with a font, as a picture in SVG, and says whether the text was shaped.
-pub(crate) fn draw_text<'a, W: Write>(
+pub(crate) fn draw_text<'a, T: Shapes, W: Write>(
     alloc: Global,
-    options: &Options<'a>,
+    asked: Asked<'_, 'a, '_, T>,
     font: &mut LoadedFont<'_>,
     output: &mut W,
 ) -> Result<bool, CommandError<'a>> {
-    let text = given_text(&options.text)?;
-    let names = take_names(alloc, &mut font.names, &font.face)?;
-    let drawn = draw(alloc, &font.face, &names, &options.line, text, output);
-    font.names = Some(names);
-    drawn
-}
-
-/// Draws the steps of shaping a text.
-fn draw<'a, W: Write>(
-    alloc: Global,
-    face: &Face<'_>,
-    names: &FaceNames<'_>,
-    options: &LineOptions<'_>,
-    text: &str,
-    output: &mut W,
-) -> Result<bool, CommandError<'a>> {
+    let text = given_text(&asked.options.text)?;
     let mut drawing = Drawing {
         picture: Picture::new(alloc),
     };
-    let is_shaped = shape_text(alloc, face, options, text, &mut drawing)?;
-    let svg = drawing.picture.draw(names)?;
-    write_picture(output, svg.as_str())?;
+    let is_shaped = shape_text(alloc, asked, font, text, &mut drawing)?;
+    let names = take_names(alloc, &mut font.names, &font.face)?;
+    let drawn = drawing.picture.draw(&names);
+    font.names = Some(names);
+    write_picture(output, drawn?.as_str())?;
     Ok(is_shaped)
 }
 
@@ -79,18 +68,25 @@ fn write_picture<'a, W: Write>(output: &mut W, picture: &str) -> Result<(), Comm
 }
 
 /// Shapes a text, and draws each step. The answer is whether it was shaped.
-fn shape_text(
+fn shape_text<T: Shapes>(
     alloc: Global,
-    face: &Face<'_>,
-    options: &LineOptions<'_>,
+    asked: Asked<'_, '_, '_, T>,
+    font: &LoadedFont<'_>,
     text: &str,
     drawing: &mut Drawing,
 ) -> Result<bool, AllocError> {
+    let options = &asked.options.line;
     let mut characters = empty_text(alloc, options);
     if !fill(alloc, options, text, &mut characters)? {
         return Ok(false);
     }
-    match shape_watched(face, options.features.as_slice(), characters, drawing) {
+    let own = OwnFunctions { face: &font.face };
+    let font = LineFont {
+        face: &font.face,
+        functions: &own,
+        features: options.features.as_slice(),
+    };
+    match asked.texts.shape_watched(&font, characters, drawing) {
         Ok(glyphs) => Ok(!glyphs.shaping_failed()),
         Err(ShapeError::Memory) => Err(AllocError),
         Err(_) => Ok(false),

@@ -1,7 +1,7 @@
 use Rattle.std.proofs.Common.{ap, ◌∙◌}
 use Rattle.line_formats.specs.Heads.{head}
-use Rattle.shape_command.proofs.LineLemmas.{shows}
-use Rattle.shape_command.proofs.lines.answer_line.Goals as goal
+use Rattle.shape_answers.proofs.LineLemmas.{shows}
+use Rattle.shape_answers.proofs.lines.answer_line.Goals as goal
 
 pub returns : goal.returns
 returns g c =

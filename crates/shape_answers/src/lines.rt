@@ -4,6 +4,7 @@ ghost use Rattle.std.specs.Prelude.{OnOk};
 ghost use Rattle.shape_lines.specs.Lines.{AnswersAll, AnswersParagraph, IsShown, Shows};
 
 use crate::shaper::{LineShaper, LineState};
+use crate::texts::Shapes;
 use line_formats::heads::head;
 use shape_fonts::synthetic_font::LineNames;
 use shape_kept::trace::trace_lines;
@@ -15,10 +16,10 @@ use std::io::{self, BufRead, ErrorKind, Read, Write};
 
 /// Answers each line of a text, and says whether all of them were shaped. A line feed ends a line, and the last line may
 /// lack it. One line is held at a time.
-pub fn answer_lines<F: AllocGlobal + Eprint, N: LineNames, R: BufRead, W: Write>(
+pub fn answer_lines<F: AllocGlobal + Eprint, T: Shapes, N: LineNames, R: BufRead, W: Write>(
     rt: &F,
     shaper: &LineShaper<'_>,
-    state: &mut LineState<'_, N>,
+    state: &mut LineState<'_, N, T>,
     reader: &mut R,
     writer: &mut W,
 ) -> Result<bool, LinesError>
@@ -40,10 +41,10 @@ pub fn answer_lines<F: AllocGlobal + Eprint, N: LineNames, R: BufRead, W: Write>
 }
 
 /// Answers a text as one line, unless it is empty, and says whether it was shaped.
-pub fn answer_paragraph<F: AllocGlobal + Eprint, N: LineNames, R: Read, W: Write>(
+pub fn answer_paragraph<F: AllocGlobal + Eprint, T: Shapes, N: LineNames, R: Read, W: Write>(
     rt: &F,
     shaper: &LineShaper<'_>,
-    state: &mut LineState<'_, N>,
+    state: &mut LineState<'_, N, T>,
     reader: &mut R,
     writer: &mut W,
 ) -> Result<bool, LinesError>
@@ -65,10 +66,10 @@ pub fn answer_paragraph<F: AllocGlobal + Eprint, N: LineNames, R: Read, W: Write
 }
 
 /// Answers a line of this number, and says whether it was shaped.
-fn answer_line<F: AllocGlobal + Eprint, N: LineNames, W: Write>(
+fn answer_line<F: AllocGlobal + Eprint, T: Shapes, N: LineNames, W: Write>(
     rt: &F,
     shaper: &LineShaper<'_>,
-    state: &mut LineState<'_, N>,
+    state: &mut LineState<'_, N, T>,
     number: u64,
     line: &[u8],
     writer: &mut W,

@@ -1,6 +1,6 @@
 use Rattle.std.proofs.Common.{rules, ◌≡◌, true, false}
-use Rattle.shape_command.proofs.LineLemmas.{so_far-none, so_far-found, so_far-not_found}
-use Rattle.shape_command.proofs.lines.answer_lines.Goals as goal
+use Rattle.shape_answers.proofs.LineLemmas.{so_far-none, so_far-found, so_far-not_found}
+use Rattle.shape_answers.proofs.lines.answer_lines.Goals as goal
 
 pub loop-number-init : goal.loop-number-init
 loop-number-init g c = so_far-none _ _ _ _
