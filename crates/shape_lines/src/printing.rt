@@ -1,8 +1,8 @@
 //! How glyphs are printed.
 
 ghost use Rattle.std.specs.Prelude.{◌≡◌, IfOk};
-ghost use Rattle.shape_lines.specs.Answer.{answer_text};
-ghost use Rattle.shape_lines.specs.Lines.{glyphs_in, glyphs_line};
+ghost use Rattle.shape_lines.specs.Answer.{IsIn, answer_text};
+ghost use Rattle.shape_lines.specs.Lines.{glyphs_line};
 ghost use Rattle.shape_options.specs.declared.output.OutputFormat.TheVariants.{Text, Json};
 
 use crate::answers::Answer;
@@ -47,9 +47,8 @@ impl GlyphPrinter<'_> {
         names: &N,
         glyphs: &GlyphBuffer,
     ) -> Result<Answer, AllocError>
-        ensures { IfOk result (λ answer. answer_text answer ≡ glyphs_in
-            (record { name = N.name_of names.now; extents = N.extents_of names.now }) self.now.output.format
-            self.now.output.flags glyphs.now) }
+        ensures { IfOk result (IsIn self.now.output.format self.now.output.flags
+            (record { name = N.name_of names.now; extents = N.extents_of names.now }) glyphs.now) }
     {
         match self.output.format {
             OutputFormat::Text => self.text(alloc, names, glyphs),
@@ -65,9 +64,8 @@ impl GlyphPrinter<'_> {
         names: &N,
         glyphs: &GlyphBuffer,
     ) -> Result<Answer, AllocError>
-        ensures { IfOk result (λ answer. answer_text answer ≡ glyphs_in
-            (record { name = N.name_of names.now; extents = N.extents_of names.now }) Text
-            self.now.output.flags glyphs.now) }
+        ensures { IfOk result (IsIn Text self.now.output.flags
+            (record { name = N.name_of names.now; extents = N.extents_of names.now }) glyphs.now) }
     {
         let text = glyphs.serialize(alloc, names, self.output.flags)?;
         Ok(Answer::Glyphs(text))
@@ -80,9 +78,8 @@ impl GlyphPrinter<'_> {
         names: &N,
         glyphs: &GlyphBuffer,
     ) -> Result<Answer, AllocError>
-        ensures { IfOk result (λ answer. answer_text answer ≡ glyphs_in
-            (record { name = N.name_of names.now; extents = N.extents_of names.now }) Json
-            self.now.output.flags glyphs.now) }
+        ensures { IfOk result (IsIn Json self.now.output.flags
+            (record { name = N.name_of names.now; extents = N.extents_of names.now }) glyphs.now) }
     {
         let infos = glyphs.glyph_infos();
         let positions = glyphs.glyph_positions();

@@ -13,14 +13,8 @@ pub(crate) fn refuse_loader<'a>(name: Option<&'a str>) -> Result<(), OptionsErro
     ensures err { IfErr result (λ _. IfGiven IsOpenType (option_map (λ text. text.now) name.entry) → ⊥) }
 {
     match name {
-        Some(name) => {
-            if is_open_type(name) {
-                Ok(())
-            } else {
-                Err(OptionsError::FaceLoader(name))
-            }
-        }
-        None => Ok(()),
+        Some(name) if !is_open_type(name) => Err(OptionsError::FaceLoader(name)),
+        _ => Ok(()),
     }
 }
 
@@ -30,14 +24,8 @@ pub(crate) fn refuse_functions<'a>(name: Option<&'a str>) -> Result<(), OptionsE
     ensures err { IfErr result (λ _. IfGiven IsOpenType (option_map (λ text. text.now) name.entry) → ⊥) }
 {
     match name {
-        Some(name) => {
-            if is_open_type(name) {
-                Ok(())
-            } else {
-                Err(OptionsError::FontFuncs(name))
-            }
-        }
-        None => Ok(()),
+        Some(name) if !is_open_type(name) => Err(OptionsError::FontFuncs(name)),
+        _ => Ok(()),
     }
 }
 
