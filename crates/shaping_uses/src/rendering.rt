@@ -27,13 +27,13 @@ pub fn render_with_ligature(
         × (rendered.1 ≡ answers_of (ligature_calls ligature) (featured text.now feature)))
         (λ fault. FailsOnText fault MonotoneGraphemes text.now) }
 {
+    let mut answers = [Answer::Outside; 3];
     let ids = [ligature];
     let calls = [
         Call::ClearOutput,
         Call::ReplaceGlyphs(2, 1, &ids),
         Call::Sync,
     ];
-    let mut answers = [Answer::Outside; 3];
     let glyphs = render(alloc, text, &[feature], &calls, &mut answers)?;
     Ok((glyphs, answers))
 }
