@@ -1,10 +1,11 @@
 //! Kerning by the table `kern` (HarfBuzz, `hb_ot_layout_kern`, `hb_kern_machine_t`).
 
-ghost use Rattle.std.specs.Prelude.{◌≡◌, ℕ, ◌<◌, ◌+◌, ◌||◌, IsSome, false, suc, length, drop, map, nat_le, option_map};
-ghost use Rattle.ot_attachments.specs.Flags.{KeepsBits, untouched};
+ghost use Rattle.std.specs.Prelude.{◌≡◌, ℕ, ◌<◌, ◌+◌, ◌||◌, suc, length, drop, map, nat_le, option_map};
+ghost use Rattle.ot_attachments.specs.Flags.{KeepsText};
 ghost use Rattle.ot_kern.specs.Kerning as kerning;
 ghost use Rattle.ot_kern.specs.Kerning.{PassesMarks, machine_of, pair_table};
 ghost use Rattle.shaping_buffer.specs.KeepsClusters.{KeepsClusters};
+ghost use Rattle.shaping_buffer.specs.State.{HasPositions};
 ghost use Rattle.ot_attachments.specs.Placing.{changed_at, advanced, shifted, pair_kerned};
 
 use crate::kern_pairs::{KernMachine, KernPair, in_line, pair_of, passes_over_pair};
@@ -25,13 +26,9 @@ const IGNORE_MARKS: u16 = 0x0008;
 /// Moves pairs of glyphs by the subtables for lines of this direction, where the glyphs have one of the options' bits.
 #[tactic(auto, using(ot_attachments::proofs::FlagLemmas::keeps_by))]
 pub fn kern(buffer: &mut hb_buffer_t, table: &KernTable, scale: &Scale, options: &LookupOptions)
-    requires closed { buffer.old.have_output ≡ false }
-    requires placed { IsSome buffer.old.positions }
+    requires placed { HasPositions buffer.old }
     ensures is { buffer.new ≡ kerning.kerned table.now scale.now options.now buffer.old }
-    ensures closed { buffer.new.have_output ≡ false }
-    ensures placed { IsSome buffer.new.positions }
-    ensures rest { untouched buffer.new ≡ untouched buffer.old }
-    ensures flags { KeepsBits buffer.old.input buffer.new.input }
+    ensures kept { KeepsText buffer.old buffer.new }
     ensures keeps { KeepsClusters buffer.old buffer.new }
 {
     prove!(buffer.out_len() == 0);
@@ -42,13 +39,9 @@ pub fn kern(buffer: &mut hb_buffer_t, table: &KernTable, scale: &Scale, options:
 /// Moves pairs of glyphs by each subtable.
 #[tactic(auto, unfolding(crate::specs::Kerning::kerned))]
 fn kern_by_all(buffer: &mut hb_buffer_t, table: &KernTable, scale: &Scale, options: &LookupOptions)
-    requires closed { buffer.old.have_output ≡ false }
-    requires placed { IsSome buffer.old.positions }
+    requires placed { HasPositions buffer.old }
     ensures is { buffer.new ≡ kerning.kerned table.now scale.now options.now buffer.old }
-    ensures closed { buffer.new.have_output ≡ false }
-    ensures placed { IsSome buffer.new.positions }
-    ensures rest { untouched buffer.new ≡ untouched buffer.old }
-    ensures flags { KeepsBits buffer.old.input buffer.new.input }
+    ensures kept { KeepsText buffer.old buffer.new }
 {
     mark_concat(buffer, 0, usize::MAX);
     let iterator = over_bases(options);
@@ -102,15 +95,11 @@ fn over_bases<'a>(options: &LookupOptions) -> SkippingIterator<'a>
 /// them before. Says whether they are joined.
 #[tactic(auto, unfolding(crate::specs::Kerning::applied))]
 fn apply(buffer: &mut hb_buffer_t, machine: &KernMachine, is_chained: bool) -> bool
-    requires closed { buffer.old.have_output ≡ false }
-    requires placed { IsSome buffer.old.positions }
+    requires placed { HasPositions buffer.old }
     requires passes { PassesMarks machine.now.iterator }
     ensures is { buffer.new ≡ kerning.applied (machine_of machine.now) is_chained buffer.old }
     ensures chained { result ≡ (is_chained || kerning.chains (machine_of machine.now)) }
-    ensures closed { buffer.new.have_output ≡ false }
-    ensures placed { IsSome buffer.new.positions }
-    ensures rest { untouched buffer.new ≡ untouched buffer.old }
-    ensures flags { KeepsBits buffer.old.input buffer.new.input }
+    ensures kept { KeepsText buffer.old buffer.new }
 {
     if is_for(&machine.subtable.coverage, machine.direction) {
         chain(buffer, machine, is_chained);
@@ -137,13 +126,9 @@ fn is_for(coverage: &KernCoverage, direction: Direction) -> bool
 /// Joins all glyphs, if the subtable moves glyphs across the line and they are not joined yet.
 #[tactic(auto, using(crate::proofs::KerningLemmas::with_positions_chained, ot_attachments::proofs::FlagLemmas::untouched_with_positions), unfolding(crate::specs::Kerning::chained))]
 fn chain(buffer: &mut hb_buffer_t, machine: &KernMachine, is_chained: bool)
-    requires closed { buffer.old.have_output ≡ false }
-    requires placed { IsSome buffer.old.positions }
+    requires placed { HasPositions buffer.old }
     ensures is { buffer.new ≡ kerning.chained (machine_of machine.now) is_chained buffer.old }
-    ensures closed { buffer.new.have_output ≡ false }
-    ensures placed { IsSome buffer.new.positions }
-    ensures rest { untouched buffer.new ≡ untouched buffer.old }
-    ensures flags { KeepsBits buffer.old.input buffer.new.input }
+    ensures kept { KeepsText buffer.old buffer.new }
 {
     if machine.subtable.coverage.is_cross_stream && !is_chained {
         let chain = chain_back(machine.direction);
@@ -180,14 +165,10 @@ fn join(position: &mut GlyphPosition, chain: i16)
 /// Moves pairs of glyphs by a subtable, one after the other in the order of the line.
 #[tactic(auto, unfolding(crate::specs::Kerning::line_kerned))]
 fn kern_by(buffer: &mut hb_buffer_t, machine: &KernMachine)
-    requires closed { buffer.old.have_output ≡ false }
-    requires placed { IsSome buffer.old.positions }
+    requires placed { HasPositions buffer.old }
     requires passes { PassesMarks machine.now.iterator }
     ensures is { buffer.new ≡ kerning.line_kerned (machine_of machine.now) buffer.old }
-    ensures closed { buffer.new.have_output ≡ false }
-    ensures placed { IsSome buffer.new.positions }
-    ensures rest { untouched buffer.new ≡ untouched buffer.old }
-    ensures flags { KeepsBits buffer.old.input buffer.new.input }
+    ensures kept { KeepsText buffer.old buffer.new }
 {
     let len = buffer.len();
     let mut turn = 0;
@@ -211,16 +192,12 @@ fn kern_at(
     turn: usize,
     across: &mut Option<usize>,
 ) -> usize
-    requires closed { buffer.old.have_output ≡ false }
-    requires placed { IsSome buffer.old.positions }
+    requires placed { HasPositions buffer.old }
     requires passes { PassesMarks machine.now.iterator }
     requires there { turn < length buffer.old.input }
     ensures is { (steps : ℕ) → kerning.walked (suc steps) (machine_of machine.now) turn across.old buffer.old
         ≡ kerning.walked steps (machine_of machine.now) result across.new buffer.new }
-    ensures closed { buffer.new.have_output ≡ false }
-    ensures placed { IsSome buffer.new.positions }
-    ensures rest { untouched buffer.new ≡ untouched buffer.old }
-    ensures flags { KeepsBits buffer.old.input buffer.new.input }
+    ensures kept { KeepsText buffer.old buffer.new }
 {
     let len = buffer.len();
     let left = in_line(machine.direction, len, turn);
@@ -251,13 +228,9 @@ fn first_crossed(pair: &KernPair, across: Option<usize>) -> Option<usize>
 /// Marks that no glyph from a place on, in the order of the line, may be parted from it: what is moved across the line moves all that
 /// follow.
 fn mark_rest(buffer: &mut hb_buffer_t, direction: Direction, across: Option<usize>)
-    requires closed { buffer.old.have_output ≡ false }
-    requires placed { IsSome buffer.old.positions }
+    requires placed { HasPositions buffer.old }
     ensures is { buffer.new ≡ kerning.rest_marked direction across buffer.old }
-    ensures closed { buffer.new.have_output ≡ false }
-    ensures placed { IsSome buffer.new.positions }
-    ensures rest { untouched buffer.new ≡ untouched buffer.old }
-    ensures flags { KeepsBits buffer.old.input buffer.new.input }
+    ensures kept { KeepsText buffer.old buffer.new }
 {
     match across {
         Some(left) => {
@@ -274,15 +247,11 @@ fn mark_rest(buffer: &mut hb_buffer_t, direction: Direction, across: Option<usiz
 /// Moves a pair that has a value. What another passes over may not be parted, where it might be kerned.
 #[tactic(auto, unfolding(crate::specs::Kerning::pair_tried))]
 fn try_pair(buffer: &mut hb_buffer_t, machine: &KernMachine, pair: &KernPair)
-    requires closed { buffer.old.have_output ≡ false }
-    requires placed { IsSome buffer.old.positions }
+    requires placed { HasPositions buffer.old }
     requires left { pair.now.left < length buffer.old.input }
     requires right { pair.now.right < length buffer.old.input }
     ensures is { buffer.new ≡ kerning.pair_tried (machine_of machine.now) pair.now buffer.old }
-    ensures closed { buffer.new.have_output ≡ false }
-    ensures placed { IsSome buffer.new.positions }
-    ensures rest { untouched buffer.new ≡ untouched buffer.old }
-    ensures flags { KeepsBits buffer.old.input buffer.new.input }
+    ensures kept { KeepsText buffer.old buffer.new }
 {
     if pair.value == 0 {
         mark_unkerned(buffer, machine, pair);
@@ -294,15 +263,11 @@ fn try_pair(buffer: &mut hb_buffer_t, machine: &KernMachine, pair: &KernPair)
 /// Marks what a pair passes over, if one of these glyphs would be kerned with its right glyph.
 #[tactic(auto, unfolding(crate::specs::Kerning::unkerned))]
 fn mark_unkerned(buffer: &mut hb_buffer_t, machine: &KernMachine, pair: &KernPair)
-    requires closed { buffer.old.have_output ≡ false }
-    requires placed { IsSome buffer.old.positions }
+    requires placed { HasPositions buffer.old }
     requires left { pair.now.left < length buffer.old.input }
     requires right { pair.now.right < length buffer.old.input }
     ensures is { buffer.new ≡ kerning.unkerned (machine_of machine.now) pair.now buffer.old }
-    ensures closed { buffer.new.have_output ≡ false }
-    ensures placed { IsSome buffer.new.positions }
-    ensures rest { untouched buffer.new ≡ untouched buffer.old }
-    ensures flags { KeepsBits buffer.old.input buffer.new.input }
+    ensures kept { KeepsText buffer.old buffer.new }
 {
     if passes_over_pair(buffer.info(), machine, pair) {
         mark_passed(buffer, pair);
@@ -312,13 +277,9 @@ fn mark_unkerned(buffer: &mut hb_buffer_t, machine: &KernMachine, pair: &KernPai
 /// Moves a pair, and marks that it may not be parted.
 #[tactic(auto, unfolding(crate::specs::Kerning::kerned_pair))]
 fn kern_pair(buffer: &mut hb_buffer_t, machine: &KernMachine, pair: &KernPair)
-    requires closed { buffer.old.have_output ≡ false }
-    requires placed { IsSome buffer.old.positions }
+    requires placed { HasPositions buffer.old }
     ensures is { buffer.new ≡ kerning.kerned_pair (machine_of machine.now) pair.now buffer.old }
-    ensures closed { buffer.new.have_output ≡ false }
-    ensures placed { IsSome buffer.new.positions }
-    ensures rest { untouched buffer.new ≡ untouched buffer.old }
-    ensures flags { KeepsBits buffer.old.input buffer.new.input }
+    ensures kept { KeepsText buffer.old buffer.new }
 {
     put(buffer, machine, pair);
     let (first, second) = (pair.left.min(pair.right), pair.left.max(pair.right));
@@ -328,13 +289,9 @@ fn kern_pair(buffer: &mut hb_buffer_t, machine: &KernMachine, pair: &KernPair)
 /// Moves a pair. A glyph that is moved across the line is attached to the one before it.
 #[tactic(auto, using(crate::proofs::KerningLemmas::with_positions_moved, ot_attachments::proofs::FlagLemmas::untouched_with_positions), unfolding(crate::specs::Kerning::put))]
 fn put(buffer: &mut hb_buffer_t, machine: &KernMachine, pair: &KernPair)
-    requires closed { buffer.old.have_output ≡ false }
-    requires placed { IsSome buffer.old.positions }
+    requires placed { HasPositions buffer.old }
     ensures is { buffer.new ≡ kerning.put (machine_of machine.now) pair.now buffer.old }
-    ensures closed { buffer.new.have_output ≡ false }
-    ensures placed { IsSome buffer.new.positions }
-    ensures rest { untouched buffer.new ≡ untouched buffer.old }
-    ensures flags { KeepsBits buffer.old.input buffer.new.input }
+    ensures kept { KeepsText buffer.old buffer.new }
 {
     move_pair(buffer.pos_mut(), machine, pair);
     if pair.is_cross_stream {
@@ -345,13 +302,9 @@ fn put(buffer: &mut hb_buffer_t, machine: &KernMachine, pair: &KernPair)
 /// Marks what a pair passes over: if a line began there, it might be kerned with the right glyph.
 #[tactic(auto, unfolding(crate::specs::Kerning::passed_marked))]
 fn mark_passed(buffer: &mut hb_buffer_t, pair: &KernPair)
-    requires closed { buffer.old.have_output ≡ false }
-    requires placed { IsSome buffer.old.positions }
+    requires placed { HasPositions buffer.old }
     ensures is { buffer.new ≡ kerning.passed_marked pair.now buffer.old }
-    ensures closed { buffer.new.have_output ≡ false }
-    ensures placed { IsSome buffer.new.positions }
-    ensures rest { untouched buffer.new ≡ untouched buffer.old }
-    ensures flags { KeepsBits buffer.old.input buffer.new.input }
+    ensures kept { KeepsText buffer.old buffer.new }
 {
     if pair.left <= pair.right {
         mark_break(buffer, pair.left, pair.right);

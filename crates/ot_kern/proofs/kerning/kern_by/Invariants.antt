@@ -1,6 +1,5 @@
-use Rattle.std.proofs.Common.{◌≡◌, ◌-◌, false, length, None}
-use Rattle.std.specs.Prelude.{IsSome}
-use Rattle.ot_attachments.specs.Flags.{KeepsBits, untouched}
+use Rattle.std.proofs.Common.{◌≡◌, ◌-◌, length, None}
+use Rattle.ot_attachments.specs.Flags.{KeepsText}
 use Rattle.ot_kern.specs.Kerning.{machine_of, walked}
 use Rattle.ot_kern.proofs.kerning.kern_by.Given as goal
 
@@ -9,8 +8,5 @@ abbrev pub invariant-loop-step : goal.invariant-loop-step
 invariant-loop-step l = record {
   same : walked (l.len - l._step) (machine_of l.machine) l.turn l.across l.buffer
       ≡ walked (length l.fn.buffer.input) (machine_of l.machine) 0 None l.fn.buffer;
-  closed : l.buffer.have_output ≡ false;
-  placed : IsSome l.buffer.positions;
-  rest : untouched l.buffer ≡ untouched l.fn.buffer;
-  flags : KeepsBits l.fn.buffer.input l.buffer.input;
+  kept : KeepsText l.fn.buffer l.buffer;
 }

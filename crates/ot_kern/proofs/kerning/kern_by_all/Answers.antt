@@ -1,6 +1,7 @@
 use Rattle.std.proofs.Common.{◌≡◌, ◌+◌, ◌-◌, suc, false, None, Some, option_map, drop, nat_eq, refl, sym, ap, ◌∙◌, if◌then◌else◌, arith}
 use Rattle.ot_kern.specs.Kerning.{Kern, kerned, kerned_from, pair_table, table_at}
 use Rattle.ot_kern.specs.declared.kern_pairs.KernMachine.{KernMachine}
+use Rattle.ot_attachments.proofs.KeptLemmas.{kept_then}
 use Rattle.ot_kern.proofs.KerningLemmas.{nat_eq_last, kerned_from_applied, kerned_from_end}
 use Rattle.ot_kern.proofs.kerning.kern_by_all.Goals as goal
 
@@ -15,10 +16,11 @@ loop-number-init c =
           ap (λ n. kerned_from n k c.start-at.result false c.mark_concat.new.buffer) all
           ∙ ap (λ at. kerned_from table.count k at false c.mark_concat.new.buffer) c.start-at.ensures
           ∙ ap (kerned_from table.count k (if table.is_apple then 8 else 4) false) c.mark_concat.ensures.is;
-      closed = c.mark_concat.ensures.closed;
-      placed = c.mark_concat.ensures.placed;
-      rest = c.mark_concat.ensures.rest;
-      flags = c.mark_concat.ensures.flags;
+      kept = record {
+        placed = record { closed = c.mark_concat.ensures.closed; placed = c.mark_concat.ensures.placed };
+        rest = c.mark_concat.ensures.rest;
+        flags = c.mark_concat.ensures.flags;
+      };
     }
 
 pub loop-number-preserved : goal.loop-number-preserved
@@ -43,10 +45,7 @@ loop-number-preserved c =
           c.apply-is_chained.ensures.chained c.apply-is_chained.ensures.is)
           ∙ ap (λ n. kerned_from n k c.loop-number.at c.loop-number.is_chained c.loop-number.buffer) one
           ∙ c.loop-number.invariant.same;
-      closed = c.apply-is_chained.ensures.closed;
-      placed = c.apply-is_chained.ensures.placed;
-      rest = c.apply-is_chained.ensures.rest ∙ c.loop-number.invariant.rest;
-      flags = λ k bit has. c.apply-is_chained.ensures.flags k bit (c.loop-number.invariant.flags k bit has);
+      kept = kept_then _ _ _ c.loop-number.invariant.kept c.apply-is_chained.ensures.kept;
     }
 
 pub returns-in_default-clause-is : goal.returns-in_default-clause-is

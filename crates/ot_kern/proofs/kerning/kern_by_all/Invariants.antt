@@ -1,6 +1,5 @@
-use Rattle.std.proofs.Common.{◌≡◌, ◌-◌, false}
-use Rattle.std.specs.Prelude.{IsSome}
-use Rattle.ot_attachments.specs.Flags.{KeepsBits, untouched}
+use Rattle.std.proofs.Common.{◌≡◌, ◌-◌}
+use Rattle.ot_attachments.specs.Flags.{KeepsText}
 use Rattle.ot_kern.specs.Kerning.{kerned, kerned_from}
 use Rattle.ot_kern.proofs.kerning.kern_by_all.Given as goal
 
@@ -9,8 +8,5 @@ abbrev pub invariant-loop-number : goal.invariant-loop-number
 invariant-loop-number l = record {
   same : kerned_from (l.table.count - l.number) (record { table = l.table; scale = l.scale; options = l.options }) l.at l.is_chained l.buffer
       ≡ kerned l.table l.scale l.options l.fn.buffer;
-  closed : l.buffer.have_output ≡ false;
-  placed : IsSome l.buffer.positions;
-  rest : untouched l.buffer ≡ untouched l.fn.buffer;
-  flags : KeepsBits l.fn.buffer.input l.buffer.input;
+  kept : KeepsText l.fn.buffer l.buffer;
 }
