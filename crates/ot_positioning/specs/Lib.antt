@@ -1,1 +1,3 @@
+pub mod KernedByTable
 pub mod MarkPlacing
+pub mod Stays

@@ -1,7 +1,8 @@
 //! The lookups that position glyphs, applied to a text in the order of its plan.
 
-ghost use Rattle.std.specs.Prelude.{◌≡◌, false, IsSome};
-ghost use Rattle.shaping_buffer.specs.KeepsClusters.{KeepsClusters};
+ghost use Rattle.ot_positioning.specs.KernedByTable.{IsKernedByTable};
+ghost use Rattle.ot_positioning.specs.Stays.{Stays};
+ghost use Rattle.shaping_buffer.specs.State.{HasPositions};
 
 use font_face::Face;
 use font_functions::FontFunctions;
@@ -13,7 +14,7 @@ use ot_gpos_tables::contour_points::{ContourPoint, ContourPoints};
 use ot_gpos_tables::instance::Instance;
 use ot_gpos_tables::kern_table::KernTable;
 use ot_layout::{LookupOptions, Search};
-use ot_map::{LayoutPlan, OtShapePlan, PlannedLookup};
+use ot_map::{OtShapePlan, PlannedLookup};
 use ot_plan::{Step, Watch, budget_of, options_of};
 use rb_common::GlyphId;
 use shaping_buffer::hb_buffer_t;
@@ -53,36 +54,21 @@ pub(crate) fn position_by_lookups<F: FontFunctions, W: Watch>(
     plan: &OtShapePlan,
     watch: &mut W,
 ) -> Result<(), AllocError>
-    requires closed { buffer.old.have_output ≡ false }
-    requires placed { IsSome buffer.old.positions }
-    ensures closed { buffer.new.have_output ≡ false }
-    ensures placed { IsSome buffer.new.positions }
-    ensures keeps { KeepsClusters buffer.old buffer.new }
+    requires placed { HasPositions buffer.old }
+    ensures stays { Stays buffer.old buffer.new }
 {
     position_start(buffer);
-    position_by_gpos(buffer, face, font, plan, watch)?;
+    apply_positions(buffer, face, font, lookups_of(plan), watch)?;
     kern_by_table(buffer, face, plan, watch)
 }
 
-/// Applies the lookups of `GPOS`, where the plan has them.
-#[tactic(auto, using(shaping_buffer::proofs::ClosedKeepsLemmas::kept))]
-fn position_by_gpos<F: FontFunctions, W: Watch>(
-    buffer: &mut hb_buffer_t,
-    face: &Face,
-    font: &F,
-    plan: &OtShapePlan,
-    watch: &mut W,
-) -> Result<(), AllocError>
-    requires closed { buffer.old.have_output ≡ false }
-    requires placed { IsSome buffer.old.positions }
-    ensures closed { buffer.new.have_output ≡ false }
-    ensures placed { IsSome buffer.new.positions }
-    ensures keeps { KeepsClusters buffer.old buffer.new }
-{
+/// The lookups of `GPOS`, where the plan has them.
+fn lookups_of(plan: &OtShapePlan) -> &[PlannedLookup] {
     if plan.apply_gpos {
-        apply_positions(buffer, face, font, &plan.layout, watch)?;
+        plan.layout.gpos_lookups.as_slice()
+    } else {
+        &[]
     }
-    Ok(())
 }
 
 /// Kerns by the table `kern`, where the plan has it.
@@ -93,11 +79,8 @@ fn kern_by_table<W: Watch>(
     plan: &OtShapePlan,
     watch: &mut W,
 ) -> Result<(), AllocError>
-    requires closed { buffer.old.have_output ≡ false }
-    requires placed { IsSome buffer.old.positions }
-    ensures closed { buffer.new.have_output ≡ false }
-    ensures placed { IsSome buffer.new.positions }
-    ensures keeps { KeepsClusters buffer.old buffer.new }
+    requires placed { HasPositions buffer.old }
+    ensures stays { Stays buffer.old buffer.new }
 {
     if plan.apply_kern {
         apply_kern(buffer, face, plan.kern_mask);
@@ -106,21 +89,21 @@ fn kern_by_table<W: Watch>(
     Ok(())
 }
 
-/// Applies the lookups of `GPOS`.
+/// Applies lookups of `GPOS`.
 #[tactic(auto, using(shaping_buffer::proofs::ClosedKeepsLemmas::kept))]
 fn apply_positions<F: FontFunctions, W: Watch>(
     buffer: &mut hb_buffer_t,
     face: &Face,
     font: &F,
-    layout: &LayoutPlan,
+    lookups: &[PlannedLookup],
     watch: &mut W,
 ) -> Result<(), AllocError>
-    requires closed { buffer.old.have_output ≡ false }
-    requires placed { IsSome buffer.old.positions }
-    ensures closed { buffer.new.have_output ≡ false }
-    ensures placed { IsSome buffer.new.positions }
-    ensures keeps { KeepsClusters buffer.old buffer.new }
+    requires placed { HasPositions buffer.old }
+    ensures stays { Stays buffer.old buffer.new }
 {
+    if lookups.is_empty() {
+        return Ok(());
+    }
     let points = FontPoints { font };
     let setting = Setting {
         list: &face.lookups.positions,
@@ -129,7 +112,7 @@ fn apply_positions<F: FontFunctions, W: Watch>(
     };
     let mut search = Search::new(budget_of(buffer));
     let glyphs = Digest::of_glyphs(buffer.info());
-    for planned in &layout.gpos_lookups {
+    for planned in lookups {
         apply_planned(buffer, &setting, planned, &glyphs, &mut search, watch)?;
     }
     Ok(())
@@ -145,11 +128,8 @@ fn apply_planned<F: FontFunctions, W: Watch>(
     search: &mut Search,
     watch: &mut W,
 ) -> Result<(), AllocError>
-    requires closed { buffer.old.have_output ≡ false }
-    requires placed { IsSome buffer.old.positions }
-    ensures closed { buffer.new.have_output ≡ false }
-    ensures placed { IsSome buffer.new.positions }
-    ensures keeps { KeepsClusters buffer.old buffer.new }
+    requires placed { HasPositions buffer.old }
+    ensures stays { Stays buffer.old buffer.new }
 {
     if !setting.list.may_apply(planned.index, glyphs) {
         return Ok(());
@@ -162,11 +142,9 @@ fn apply_planned<F: FontFunctions, W: Watch>(
 /// Kerns by the table `kern`.
 #[tactic(auto, using(shaping_buffer::proofs::ClosedKeepsLemmas::kept))]
 fn apply_kern(buffer: &mut hb_buffer_t, face: &Face, mask: u32)
-    requires closed { buffer.old.have_output ≡ false }
-    requires placed { IsSome buffer.old.positions }
-    ensures closed { buffer.new.have_output ≡ false }
-    ensures placed { IsSome buffer.new.positions }
-    ensures keeps { KeepsClusters buffer.old buffer.new }
+    requires placed { HasPositions buffer.old }
+    ensures kerned { IsKernedByTable face.now mask buffer.old buffer.new }
+    ensures stays { Stays buffer.old buffer.new }
 {
     let options = LookupOptions {
         mask,

@@ -1,8 +1,10 @@
 //! The positions of the glyphs of a text, step by step.
 
 ghost use Rattle.std.specs.Prelude.{◌≡◌, ◌↔◌, false, IfOk, IsSome, IsTrue};
+ghost use Rattle.ot_positioning.specs.Stays.{Stays};
 ghost use Rattle.script_shapers.specs.Shapers.{width_of};
 ghost use Rattle.shaping_buffer.specs.KeepsClusters.{KeepsClusters};
+ghost use Rattle.shaping_buffer.specs.State.{HasPositions};
 
 use crate::fallback_marks::position_marks;
 use crate::lookups::position_by_lookups;
@@ -68,8 +70,7 @@ fn finish_positions<F: FontFunctions>(
     plan: &OtShapePlan,
     direction: Direction,
 ) -> Result<(), AllocError>
-    requires closed { buffer.old.have_output ≡ false }
-    requires placed { IsSome buffer.old.positions }
+    requires placed { HasPositions buffer.old }
     ensures closed { IfOk result (λ _. buffer.new.have_output ≡ false) }
     ensures placed { IfOk result (λ _. IsSome buffer.new.positions) }
     ensures keeps { KeepsClusters buffer.old buffer.new }
@@ -85,11 +86,8 @@ fn finish_positions<F: FontFunctions>(
 
 /// Takes the width of glyphs that were deleted by Apple's table `morx`.
 fn zero_deleted(buffer: &mut hb_buffer_t, plan: &TextPlan)
-    requires closed { buffer.old.have_output ≡ false }
-    requires placed { IsSome buffer.old.positions }
-    ensures closed { buffer.new.have_output ≡ false }
-    ensures placed { IsSome buffer.new.positions }
-    ensures keeps { KeepsClusters buffer.old buffer.new }
+    requires placed { HasPositions buffer.old }
+    ensures stays { Stays buffer.old buffer.new }
 {
     if plan.chain_flags.is_some() {
         zero_width_deleted_glyphs(buffer);
@@ -98,11 +96,8 @@ fn zero_deleted(buffer: &mut hb_buffer_t, plan: &TextPlan)
 
 /// Takes the width of marks, where that is said.
 fn zero_marks(buffer: &mut hb_buffer_t, zeroes: bool, adjusts: bool)
-    requires closed { buffer.old.have_output ≡ false }
-    requires placed { IsSome buffer.old.positions }
-    ensures closed { buffer.new.have_output ≡ false }
-    ensures placed { IsSome buffer.new.positions }
-    ensures keeps { KeepsClusters buffer.old buffer.new }
+    requires placed { HasPositions buffer.old }
+    ensures stays { Stays buffer.old buffer.new }
 {
     if zeroes {
         zero_mark_widths(buffer, adjusts);
