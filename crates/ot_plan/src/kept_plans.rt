@@ -3,6 +3,7 @@
 ghost use Rattle.std.specs.Prelude.{◌≡◌, [], Some, length, slice_get, IfOk, IfSome, IsNone, IsSomeAnd};
 ghost use Rattle.ot_plan.specs.Plans.{IsPlanOf, NoneIsPlanOf};
 
+use crate::planning::SegmentProperties;
 use crate::shape_plan::ShapePlan;
 use font_face::Face;
 use font_functions::FontFunctions;
@@ -108,12 +109,10 @@ fn plan_of_buffer<F: FontFunctions>(
 ) -> Result<ShapePlan, AllocError>
     ensures { IfOk result (λ plan. IsPlanOf plan face.now features.now buffer.now) }
 {
-    ShapePlan::with_functions(
-        face,
-        font,
-        buffer.direction,
-        buffer.script,
-        buffer.language.as_ref(),
-        features,
-    )
+    let segment = SegmentProperties {
+        direction: buffer.direction,
+        script: buffer.script,
+        language: buffer.language.as_ref(),
+    };
+    ShapePlan::with_functions(face, font, &segment, features)
 }

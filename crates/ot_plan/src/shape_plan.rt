@@ -71,43 +71,41 @@ impl ShapePlan {
             user_features.now plan.made) }
     {
         let own = OwnFunctions { face };
-        Self::with_functions(face, &own, direction, script, language, user_features)
+        let segment = SegmentProperties {
+            direction,
+            script,
+            language,
+        };
+        Self::with_functions(face, &own, &segment, user_features)
     }
 
     /// The plan for such texts by a font of which these functions answer. It is for this font and these functions alone.
     pub(crate) fn with_functions<F: FontFunctions>(
         face: &Face,
         font: &F,
-        direction: Direction,
-        script: Option<Script>,
-        language: Option<&Language>,
+        segment: &SegmentProperties,
         user_features: &[Feature],
     ) -> Result<Self, AllocError>
         ensures texts { IfOk result (λ plan. plan.texts ≡ record {
-          direction = direction;
-          script = script;
-          language = option_copied language.entry;
+          direction = segment.now.direction;
+          script = segment.now.script;
+          language = option_copied segment.now.language;
           features = user_features.now;
           coordinates = face.now.variations.coordinates.items;
         }) }
-        ensures made { IfOk result (λ plan. IsMadeOf face.now direction script
-            (scripts_of script (option_copied language.entry)) plan.made) }
-        ensures decides { IfOk result (λ plan. IsDecided face.now direction script
-            (scripts_of script (option_copied language.entry)) plan.made) }
-        ensures asked { IfOk result (λ plan. IsAskedFor face.now direction script
-            (scripts_of script (option_copied language.entry)) (language_tags (option_copied language.entry))
-            user_features.now plan.made) }
+        ensures made { IfOk result (λ plan. IsMadeOf face.now segment.now.direction segment.now.script
+            (scripts_of segment.now.script (option_copied segment.now.language)) plan.made) }
+        ensures decides { IfOk result (λ plan. IsDecided face.now segment.now.direction segment.now.script
+            (scripts_of segment.now.script (option_copied segment.now.language)) plan.made) }
+        ensures asked { IfOk result (λ plan. IsAskedFor face.now segment.now.direction segment.now.script
+            (scripts_of segment.now.script (option_copied segment.now.language))
+            (language_tags (option_copied segment.now.language)) user_features.now plan.made) }
     {
-        let segment = SegmentProperties {
-            direction,
-            script,
-            language,
-        };
         Ok(ShapePlan {
-            made: plan_for(face, font, &segment, user_features)?,
-            direction,
-            script,
-            language: text_of_language(face.alloc, language)?,
+            made: plan_for(face, font, segment, user_features)?,
+            direction: segment.direction,
+            script: segment.script,
+            language: text_of_language(face.alloc, segment.language)?,
             features: copy_of_features(face.alloc, user_features)?,
             coordinates: copy_of_coordinates(face)?,
         })
