@@ -5,13 +5,15 @@ use Rattle.std.specs.Prelude.{not, Result, Ok, Err, IfOk, if◌then◌else◌}
 use Rattle.rb_common.specs.Direction.{is_forward}
 use Rattle.glyph_lists.specs.Clusters.{clusters, occurs, least}
 use Rattle.glyph_lists.specs.KeptClusters.{Runs, BringsNoCluster, KeepsLeast}
-use Rattle.shaping_buffer.specs.State.{State}
+use Rattle.shaping_buffer.specs.State.{HasPositions, State}
 use Rattle.shaping_buffer.specs.Limits.{enter}
 use Rattle.shaping_buffer.specs.Properties.{guessed}
 use Rattle.shaping_buffer.specs.ClusterStep.{both, any_order}
 use Rattle.shaping_buffer.specs.KeepsClusters.{KeepsClusters}
 use Rattle.shaping_buffer.proofs.KeepsLemmas.{keeps_then, turns_then_keeps, keeps_then_turns, turns_twice}
 use Rattle.ot_characters.specs.Turned.{KeepsOrTurns}
+use Rattle.shaping_verification.specs.declared.shape_error.ShapeError.{ShapeError}
+use Rattle.ot_shape.specs.Shaped.{AreShaped, Shapes}
 use Rattle.ot_shape.specs.ShapedClusters.{ShapedClusters}
 
 -- ---- steps that keep or turn
@@ -83,17 +85,25 @@ pub shaped_guessed : (s glyphs : State) → ShapedClusters (guessed s) glyphs �
 shaped_guessed s glyphs h = record { numbers = h.numbers; least = h.least; order = h.order }
 
 -- where the properties of a text were guessed before
-pub of_guessed : {E : Type 0} (s b : State) (r : Result State E) → b ≡ guessed s → IfOk r (ShapedClusters b)
-    → IfOk r (ShapedClusters s)
-of_guessed s b (Ok g) e h = shaped_guessed s g (subst (λ (x : State). ShapedClusters x g) e h)
-of_guessed s b (Err x) e h = tt
+pub shapes_guessed : (s b : State) (r : Result State ShapeError) → b ≡ guessed s → Shapes b.direction b r
+    → Shapes (guessed s).direction s r
+shapes_guessed s b (Ok g) e h = record {
+  glyphs = record {
+    placed = h.glyphs.placed;
+    within = subst (λ (x : State). length g.input ≤ (enter x).max_len) e h.glyphs.within;
+    direction = subst (λ (x : State). g.direction ≡ x.direction) e h.glyphs.direction;
+    clusters = shaped_guessed s g (subst (λ (x : State). ShapedClusters x g) e h.glyphs.clusters);
+  };
+  named = tt;
+}
+shapes_guessed s b (Err x) e h = record { glyphs = tt; named = h.named }
 
-pub within_guessed : {E : Type 0} (s b : State) (r : Result State E) → b ≡ guessed s
-    → IfOk r (λ glyphs. length glyphs.input ≤ (enter b).max_len) → IfOk r (λ glyphs. length glyphs.input ≤ (enter s).max_len)
-within_guessed s b (Ok g) e h = subst (λ (x : State). length g.input ≤ (enter x).max_len) e h
-within_guessed s b (Err x) e h = tt
-
-pub direction_guessed : {E : Type 0} (s b : State) (r : Result State E) → b ≡ guessed s
-    → IfOk r (λ glyphs. glyphs.direction ≡ b.direction) → IfOk r (λ glyphs. glyphs.direction ≡ (guessed s).direction)
-direction_guessed s b (Ok g) e h = subst (λ (x : State). g.direction ≡ x.direction) e h
-direction_guessed s b (Err x) e h = tt
+-- where a text was entered before
+pub shaped_from : (s b t : State) → b ≡ enter s → HasPositions t → length t.input ≤ b.max_len → t.direction ≡ b.direction
+    → ShapedClusters b t → AreShaped s.direction s t
+shaped_from s b t e placed within direction clusters = record {
+  placed = placed;
+  within = subst (λ (x : State). length t.input ≤ x.max_len) e within;
+  direction = subst (λ (x : State). t.direction ≡ x.direction) e direction;
+  clusters = shaped_entered s t (subst (λ (x : State). ShapedClusters x t) e clusters);
+}

@@ -1,4 +1,5 @@
 pub mod Glyphs
+pub mod Shaped
 pub mod ShapedClusters
 pub mod TooLong
 -- what is said of a plan, and of a font

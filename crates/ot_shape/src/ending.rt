@@ -1,11 +1,11 @@
 //! The last steps of shaping: what is taken out, hidden or stretched, and the glyph flags of clusters.
 
-ghost use Rattle.std.specs.Prelude.{◌≡◌, true, false, None, IfOk, IsSome, if◌then◌else◌};
+ghost use Rattle.std.specs.Prelude.{◌≡◌, None, if◌then◌else◌};
 ghost use Rattle.ot_positions.specs.ClusterFlags.{propagate_flags};
 ghost use Rattle.ot_positions.specs.Ending.{Hides, show_variation_selectors};
 ghost use Rattle.shaping_buffer.specs.ClusterStep.{unsafe_to_break};
-ghost use Rattle.shaping_buffer.specs.KeepsClusters.{KeepsClusters};
-ghost use Rattle.shaping_passes.specs.Refusals.{IsRefusal};
+ghost use Rattle.shaping_buffer.specs.State.{HasPositions};
+ghost use Rattle.ot_shape.specs.Shaped.{Stays, StaysUnlessRefused};
 
 use aat_substitution::remove_deleted_glyphs;
 use font_face::Face;
@@ -27,12 +27,8 @@ pub(crate) fn finish_glyphs<F: FontFunctions>(
     font: &F,
     plan: &TextPlan,
 ) -> Result<bool, AllocError>
-    requires closed { buffer.old.have_output ≡ false }
-    requires placed { IsSome buffer.old.positions }
-    ensures closed { IfOk result (λ done. done ≡ true → buffer.new.have_output ≡ false) }
-    ensures placed { IfOk result (λ done. done ≡ true → IsSome buffer.new.positions) }
-    ensures refusal { IsRefusal false result buffer.new }
-    ensures keeps { KeepsClusters buffer.old buffer.new }
+    requires placed { HasPositions buffer.old }
+    ensures { StaysUnlessRefused result buffer.old buffer.new }
 {
     hide_glyphs(buffer, font, plan);
     if !stretch_marks(buffer, face, font, &plan.script)? {
@@ -45,13 +41,10 @@ pub(crate) fn finish_glyphs<F: FontFunctions>(
 /// Marks a text of which shaping was given up, and then gives the glyphs of a cluster the same flags.
 #[tactic(auto, using(shaping_buffer::proofs::ClosedKeepsLemmas::kept))]
 fn end_flags(buffer: &mut hb_buffer_t)
-    requires closed { buffer.old.have_output ≡ false }
-    requires placed { IsSome buffer.old.positions }
+    requires placed { HasPositions buffer.old }
     ensures is { buffer.new ≡ propagate_flags
         (if buffer.old.shaping_failed then unsafe_to_break None None buffer.old else buffer.old) }
-    ensures closed { buffer.new.have_output ≡ false }
-    ensures placed { IsSome buffer.new.positions }
-    ensures keeps { KeepsClusters buffer.old buffer.new }
+    ensures stays { Stays buffer.old buffer.new }
 {
     mark_given_up(buffer);
     propagate_flags(buffer);
@@ -60,11 +53,8 @@ fn end_flags(buffer: &mut hb_buffer_t)
 /// Takes out glyphs that were deleted, and hides what is not to be seen.
 #[tactic(auto, using(shaping_buffer::proofs::ClosedKeepsLemmas::kept))]
 fn hide_glyphs<F: FontFunctions>(buffer: &mut hb_buffer_t, font: &F, plan: &TextPlan)
-    requires closed { buffer.old.have_output ≡ false }
-    requires placed { IsSome buffer.old.positions }
-    ensures closed { buffer.new.have_output ≡ false }
-    ensures placed { IsSome buffer.new.positions }
-    ensures keeps { KeepsClusters buffer.old buffer.new }
+    requires placed { HasPositions buffer.old }
+    ensures stays { Stays buffer.old buffer.new }
 {
     remove_deleted(buffer, plan);
     hide_unseen(buffer, font);
@@ -73,12 +63,9 @@ fn hide_glyphs<F: FontFunctions>(buffer: &mut hb_buffer_t, font: &F, plan: &Text
 /// Shows the variation selectors that the font does not know, and hides what is not to be seen.
 #[tactic(auto, using(shaping_buffer::proofs::ClosedKeepsLemmas::kept))]
 fn hide_unseen<F: FontFunctions>(buffer: &mut hb_buffer_t, font: &F)
-    requires closed { buffer.old.have_output ≡ false }
-    requires placed { IsSome buffer.old.positions }
+    requires placed { HasPositions buffer.old }
     ensures hides { Hides (F.has font.now) (F.may_have font.now) (show_variation_selectors buffer.old) buffer.new }
-    ensures closed { buffer.new.have_output ≡ false }
-    ensures placed { IsSome buffer.new.positions }
-    ensures keeps { KeepsClusters buffer.old buffer.new }
+    ensures stays { Stays buffer.old buffer.new }
 {
     show_variation_selectors(buffer);
     hide_ignorables(buffer, font);
@@ -92,23 +79,16 @@ fn stretch_marks<F: FontFunctions>(
     font: &F,
     script: &ScriptPlan,
 ) -> Result<bool, AllocError>
-    requires closed { buffer.old.have_output ≡ false }
-    requires placed { IsSome buffer.old.positions }
-    ensures closed { IfOk result (λ done. done ≡ true → buffer.new.have_output ≡ false) }
-    ensures placed { IfOk result (λ done. done ≡ true → IsSome buffer.new.positions) }
-    ensures refusal { IsRefusal false result buffer.new }
-    ensures keeps { KeepsClusters buffer.old buffer.new }
+    requires placed { HasPositions buffer.old }
+    ensures { StaysUnlessRefused result buffer.old buffer.new }
 {
     script.postprocess_glyphs(face.alloc, buffer, &FaceGlyphs { face, font })
 }
 
 /// Takes out glyphs that were deleted by Apple's table `morx`, unless `GPOS` positioned the others without them.
 fn remove_deleted(buffer: &mut hb_buffer_t, plan: &TextPlan)
-    requires closed { buffer.old.have_output ≡ false }
-    requires placed { IsSome buffer.old.positions }
-    ensures closed { buffer.new.have_output ≡ false }
-    ensures placed { IsSome buffer.new.positions }
-    ensures keeps { KeepsClusters buffer.old buffer.new }
+    requires placed { HasPositions buffer.old }
+    ensures stays { Stays buffer.old buffer.new }
 {
     if plan.chain_flags.is_some() && !plan.shape.apply_gpos {
         share_flags(buffer);

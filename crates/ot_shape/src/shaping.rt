@@ -1,16 +1,15 @@
 //! The shaping of a text by a font: HarfBuzz's steps, one after the other.
 
-ghost use Rattle.std.specs.Prelude.{◌≡◌, ◌≢◌, ◌≤◌, [], true, false, not, length, map, IfOk, IfErr, IsSome, if◌then◌else◌};
+ghost use Rattle.std.specs.Prelude.{◌≡◌, ◌≤◌, [], true, false, not, length, map, IfOk, IsSome, if◌then◌else◌};
 ghost use Rattle.rb_common.specs.Direction.{is_forward};
-ghost use Rattle.shaping_buffer.specs.Limits.{enter};
 ghost use Rattle.shaping_buffer.specs.Properties.{guessed};
-ghost use Rattle.shaping_buffer.specs.State.{HasPositions};
 ghost use Rattle.shaping_buffer.specs.State.{State};
 ghost use Rattle.ot_characters.specs.Circle.{InsertsCircle};
 ghost use Rattle.ot_characters.specs.FormedClusters.{with_clusters};
 ghost use Rattle.ot_characters.specs.Properties.{set_properties};
 ghost use Rattle.ot_characters.specs.Turned.{KeepsOrTurns};
 ghost use Rattle.ot_shape.specs.Glyphs.{glyph_of, in_place};
+ghost use Rattle.ot_shape.specs.Shaped.{Shapes};
 ghost use Rattle.ot_shape.specs.TooLong.{IsTooLong};
 ghost use Rattle.ot_shape.specs.ShapedClusters.{ShapedClusters};
 ghost use Rattle.shaping_buffer.specs.KeepsClusters.{KeepsClusters};
@@ -53,11 +52,7 @@ pub fn shape(
     features: &[Feature],
     text: UnicodeBuffer,
 ) -> Result<GlyphBuffer, ShapeError>
-    ensures placed { IfOk result HasPositions }
-    ensures within { IfOk result (λ glyphs. length glyphs.input ≤ (enter text).max_len) }
-    ensures direction { IfOk result (λ glyphs. glyphs.direction ≡ (guessed text).direction) }
-    ensures clusters { IfOk result (ShapedClusters text) }
-    ensures named { IfErr result (λ e. e ≢ ShapeError.OtherPlan) }
+    ensures { Shapes (guessed text).direction text result }
 {
     shape_watched(face, features, text, &mut Unwatched)
 }
@@ -69,11 +64,7 @@ pub fn shape_watched<W: Watch>(
     text: UnicodeBuffer,
     watch: &mut W,
 ) -> Result<GlyphBuffer, ShapeError>
-    ensures placed { IfOk result HasPositions }
-    ensures within { IfOk result (λ glyphs. length glyphs.input ≤ (enter text).max_len) }
-    ensures direction { IfOk result (λ glyphs. glyphs.direction ≡ (guessed text).direction) }
-    ensures clusters { IfOk result (ShapedClusters text) }
-    ensures named { IfErr result (λ e. e ≢ ShapeError.OtherPlan) }
+    ensures { Shapes (guessed text).direction text result }
 {
     shape_with_functions_watched(face, &OwnFunctions { face }, features, text, watch)
 }
@@ -86,11 +77,7 @@ pub fn shape_with_functions<F: FontFunctions>(
     features: &[Feature],
     text: UnicodeBuffer,
 ) -> Result<GlyphBuffer, ShapeError>
-    ensures placed { IfOk result HasPositions }
-    ensures within { IfOk result (λ glyphs. length glyphs.input ≤ (enter text).max_len) }
-    ensures direction { IfOk result (λ glyphs. glyphs.direction ≡ (guessed text).direction) }
-    ensures clusters { IfOk result (ShapedClusters text) }
-    ensures named { IfErr result (λ e. e ≢ ShapeError.OtherPlan) }
+    ensures { Shapes (guessed text).direction text result }
 {
     shape_with_functions_watched(face, font, features, text, &mut Unwatched)
 }
@@ -103,11 +90,7 @@ pub fn shape_with_functions_watched<F: FontFunctions, W: Watch>(
     text: UnicodeBuffer,
     watch: &mut W,
 ) -> Result<GlyphBuffer, ShapeError>
-    ensures placed { IfOk result HasPositions }
-    ensures within { IfOk result (λ glyphs. length glyphs.input ≤ (enter text).max_len) }
-    ensures direction { IfOk result (λ glyphs. glyphs.direction ≡ (guessed text).direction) }
-    ensures clusters { IfOk result (ShapedClusters text) }
-    ensures named { IfErr result (λ e. e ≢ ShapeError.OtherPlan) }
+    ensures { Shapes (guessed text).direction text result }
 {
     let mut text = text;
     text.guess_segment_properties();
@@ -126,11 +109,7 @@ pub(crate) fn shape_by_plan<F: FontFunctions, W: Watch>(
     watch: &mut W,
 ) -> Result<GlyphBuffer, ShapeError>
     requires { buffer.have_output ≡ false }
-    ensures placed { IfOk result HasPositions }
-    ensures within { IfOk result (λ glyphs. length glyphs.input ≤ (enter buffer).max_len) }
-    ensures direction { IfOk result (λ glyphs. glyphs.direction ≡ buffer.direction) }
-    ensures clusters { IfOk result (ShapedClusters buffer) }
-    ensures named { IfErr result (λ e. e ≢ ShapeError.OtherPlan) }
+    ensures { Shapes buffer.direction buffer result }
 {
     if buffer.flags.contains(BufferFlags::VERIFY) {
         shape_verified(face, font, plan, features, buffer)
@@ -145,22 +124,29 @@ pub(crate) fn shape_planned<F: FontFunctions, W: Watch>(
     font: &F,
     plan: &TextPlan,
     features: &[Feature],
-    buffer: hb_buffer_t,
+    text: hb_buffer_t,
     watch: &mut W,
 ) -> Result<GlyphBuffer, ShapeError>
-    requires { buffer.have_output ≡ false }
-    ensures placed { IfOk result HasPositions }
-    ensures within { IfOk result (λ glyphs. length glyphs.input ≤ (enter buffer).max_len) }
-    ensures direction { IfOk result (λ glyphs. glyphs.direction ≡ buffer.direction) }
-    ensures clusters { IfOk result (ShapedClusters buffer) }
-    ensures named { IfErr result (λ e. e ≢ ShapeError.OtherPlan) }
+    requires { text.have_output ≡ false }
+    ensures { Shapes text.direction text result }
 {
-    let mut buffer = buffer;
+    let mut buffer = text;
     buffer.enter();
     if !shape_buffer(&mut buffer, face, font, plan, features, watch)? {
         return Err(ShapeError::TooLong);
     }
     Ok(GlyphBuffer::from_buffer(buffer))
+}
+
+/// How the text of a line is shaped.
+#[derive(Clone, Copy)]
+struct TextLine<'a> {
+    /// The plan of the text.
+    plan: &'a TextPlan,
+    /// The features that a user asked for.
+    features: &'a [Feature],
+    /// The way in which the line was said to run.
+    direction: Direction,
 }
 
 /// Shapes the text of a buffer. `Ok(false)` where a call was refused for length.
@@ -184,14 +170,18 @@ fn shape_buffer<F: FontFunctions, W: Watch>(
 {
     prove!(buffer.out_len() == 0);
     let limit = buffer.max_len();
-    let direction = buffer.direction;
-    if !make_glyphs(buffer, face, font, plan, features, watch)? {
+    let line = TextLine {
+        plan,
+        features,
+        direction: buffer.direction,
+    };
+    if !make_glyphs(buffer, face, font, &line, watch)? {
         return Ok(false);
     }
     if buffer.len() > limit {
         return Ok(false);
     }
-    end_line(buffer, direction);
+    end_line(buffer, line.direction);
     watch.step(Step::Shaped, buffer)?;
     Ok(true)
 }
@@ -213,37 +203,31 @@ fn end_line(buffer: &mut hb_buffer_t, direction: Direction)
     buffer.leave();
 }
 
-/// Makes glyphs of the characters of a buffer, with their positions. `Ok(false)` where a call was refused for length.
+/// Makes glyphs of the characters of a line, with their positions. `Ok(false)` where a call was refused for length.
 fn make_glyphs<F: FontFunctions, W: Watch>(
     buffer: &mut hb_buffer_t,
     face: &Face,
     font: &F,
-    plan: &TextPlan,
-    features: &[Feature],
+    line: &TextLine<'_>,
     watch: &mut W,
 ) -> Result<bool, AllocError>
-    requires { buffer.old.have_output ≡ false }
+    requires closed { buffer.old.have_output ≡ false }
+    requires direction { line.now.direction ≡ buffer.old.direction }
     ensures closed { IfOk result (λ done. done ≡ true → buffer.new.have_output ≡ false) }
     ensures placed { IfOk result (λ done. done ≡ true → IsSome buffer.new.positions) }
     ensures runs { IfOk result (λ done. done ≡ true
         → KeepsOrTurns (not (is_forward buffer.old.direction)) buffer.old buffer.new) }
     ensures refusal { IsRefusal false result buffer.new }
 {
-    let direction = buffer.direction;
-    if !begin_characters(buffer, font, plan)? {
+    if !begin_characters(buffer, font, line.plan)? {
         return Ok(false);
     }
     let is_turned = ensure_native_direction(buffer);
-    let line = TextLine {
-        plan,
-        features,
-        direction,
-    };
-    if !shape_native(buffer, face, font, line, watch)? {
+    if !shape_native(buffer, face, font, *line, watch)? {
         return Ok(false);
     }
-    reverse_if(buffer, is_against(direction.is_forward(), is_turned));
-    finish_glyphs(buffer, face, font, plan)
+    reverse_if(buffer, is_against(line.direction.is_forward(), is_turned));
+    finish_glyphs(buffer, face, font, line.plan)
 }
 
 /// Whether the glyphs stand against the line: it runs forward and the text was turned, or it runs backward and the text was not.
@@ -264,17 +248,6 @@ fn reverse_if(buffer: &mut hb_buffer_t, is_against: bool)
     if is_against {
         buffer.reverse();
     }
-}
-
-/// How the text of a line is shaped.
-#[derive(Clone, Copy)]
-struct TextLine<'a> {
-    /// The plan of the text.
-    plan: &'a TextPlan,
-    /// The features that a user asked for.
-    features: &'a [Feature],
-    /// The way in which the line was said to run.
-    direction: Direction,
 }
 
 /// Makes glyphs of characters that stand in the direction of their script. `Ok(false)` where a call was refused for length.

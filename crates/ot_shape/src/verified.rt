@@ -1,9 +1,7 @@
 //! The shaping of texts whose glyphs are tested.
 
-ghost use Rattle.std.specs.Prelude.{◌≡◌, ◌≢◌, ◌≤◌, false, length, IfOk, IfErr};
-ghost use Rattle.shaping_buffer.specs.Limits.{enter};
-ghost use Rattle.shaping_buffer.specs.State.{HasPositions};
-ghost use Rattle.ot_shape.specs.ShapedClusters.{ShapedClusters};
+ghost use Rattle.std.specs.Prelude.{◌≡◌, false};
+ghost use Rattle.ot_shape.specs.Shaped.{Shapes};
 
 use crate::shaping::shape_planned;
 use font_face::Face;
@@ -43,11 +41,7 @@ pub(crate) fn shape_verified<F: FontFunctions>(
     buffer: hb_buffer_t,
 ) -> Result<GlyphBuffer, ShapeError>
     requires { buffer.have_output ≡ false }
-    ensures placed { IfOk result HasPositions }
-    ensures within { IfOk result (λ glyphs. length glyphs.input ≤ (enter buffer).max_len) }
-    ensures direction { IfOk result (λ glyphs. glyphs.direction ≡ buffer.direction) }
-    ensures clusters { IfOk result (ShapedClusters buffer) }
-    ensures named { IfErr result (λ e. e ≢ ShapeError.OtherPlan) }
+    ensures { Shapes buffer.direction buffer result }
 {
     let text = Original::of(face.alloc, &buffer)?;
     let glyphs = shape_planned(face, font, plan, features, buffer, &mut Unwatched)?;

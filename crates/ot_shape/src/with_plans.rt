@@ -1,11 +1,9 @@
 //! The shaping of texts by plans that were made before.
 
-ghost use Rattle.std.specs.Prelude.{◌≡◌, ◌≢◌, ◌≤◌, ◌↔◌, length, Any, IfOk, IfErr, IsErrOf};
-ghost use Rattle.shaping_buffer.specs.Limits.{enter};
+ghost use Rattle.std.specs.Prelude.{◌↔◌, IfOk, IsErrOf};
 ghost use Rattle.shaping_buffer.specs.Properties.{guessed};
-ghost use Rattle.shaping_buffer.specs.State.{HasPositions};
-ghost use Rattle.ot_plan.specs.Plans.{IsFor, IsPlanOf};
-ghost use Rattle.ot_shape.specs.ShapedClusters.{ShapedClusters};
+ghost use Rattle.ot_plan.specs.Plans.{IsFor};
+ghost use Rattle.ot_shape.specs.Shaped.{AreShaped, ShapesByKept};
 
 use crate::shaping::shape_by_plan;
 use font_face::Face;
@@ -22,10 +20,7 @@ pub fn shape_with_plan(
     plan: &ShapePlan,
     text: UnicodeBuffer,
 ) -> Result<GlyphBuffer, ShapeError>
-    ensures placed { IfOk result HasPositions }
-    ensures within { IfOk result (λ glyphs. length glyphs.input ≤ (enter text).max_len) }
-    ensures direction { IfOk result (λ glyphs. glyphs.direction ≡ (guessed text).direction) }
-    ensures clusters { IfOk result (ShapedClusters text) }
+    ensures shapes { IfOk result (AreShaped (guessed text).direction text) }
     ensures own { IfOk result (λ _. IsFor plan.now face.now plan.now.texts.features (guessed text)) }
     ensures other { IsErrOf result ShapeError.OtherPlan
         ↔ ¬ IsFor plan.now face.now plan.now.texts.features (guessed text) }
@@ -42,10 +37,7 @@ pub fn shape_with_plan_watched<W: Watch>(
     text: UnicodeBuffer,
     watch: &mut W,
 ) -> Result<GlyphBuffer, ShapeError>
-    ensures placed { IfOk result HasPositions }
-    ensures within { IfOk result (λ glyphs. length glyphs.input ≤ (enter text).max_len) }
-    ensures direction { IfOk result (λ glyphs. glyphs.direction ≡ (guessed text).direction) }
-    ensures clusters { IfOk result (ShapedClusters text) }
+    ensures shapes { IfOk result (AreShaped (guessed text).direction text) }
     ensures own { IfOk result (λ _. IsFor plan.now face.now features.now (guessed text)) }
     ensures other { IsErrOf result ShapeError.OtherPlan
         ↔ ¬ IsFor plan.now face.now features.now (guessed text) }
@@ -68,13 +60,7 @@ pub fn shape_with_kept_plans(
     kept: &mut KeptPlans,
     text: UnicodeBuffer,
 ) -> Result<GlyphBuffer, ShapeError>
-    ensures placed { IfOk result HasPositions }
-    ensures within { IfOk result (λ glyphs. length glyphs.input ≤ (enter text).max_len) }
-    ensures direction { IfOk result (λ glyphs. glyphs.direction ≡ (guessed text).direction) }
-    ensures clusters { IfOk result (ShapedClusters text) }
-    ensures planned { IfOk result (λ _. Any
-        (λ plan. IsPlanOf plan face.now features.now (guessed text)) kept.new) }
-    ensures named { IfErr result (λ e. e ≢ ShapeError.OtherPlan) }
+    ensures { ShapesByKept face.now features.now kept.new text result }
 {
     shape_with_functions_and_plans(face, &OwnFunctions { face }, features, kept, text)
 }
@@ -88,13 +74,7 @@ pub fn shape_with_functions_and_plans<F: FontFunctions>(
     kept: &mut KeptPlans,
     text: UnicodeBuffer,
 ) -> Result<GlyphBuffer, ShapeError>
-    ensures placed { IfOk result HasPositions }
-    ensures within { IfOk result (λ glyphs. length glyphs.input ≤ (enter text).max_len) }
-    ensures direction { IfOk result (λ glyphs. glyphs.direction ≡ (guessed text).direction) }
-    ensures clusters { IfOk result (ShapedClusters text) }
-    ensures planned { IfOk result (λ _. Any
-        (λ plan. IsPlanOf plan face.now features.now (guessed text)) kept.new) }
-    ensures named { IfErr result (λ e. e ≢ ShapeError.OtherPlan) }
+    ensures { ShapesByKept face.now features.now kept.new text result }
 {
     let mut text = text;
     text.guess_segment_properties();

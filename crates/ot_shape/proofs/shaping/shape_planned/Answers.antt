@@ -1,15 +1,18 @@
 use Rattle.std.proofs.Common.{◌≡◌, true, sym, subst, arith}
 use Rattle.std.proofs.lemmas.Grind.{common_steps}
-use Rattle.shaping_buffer.specs.State.{State}
-use Rattle.ot_shape.specs.ShapedClusters.{ShapedClusters}
-use Rattle.ot_shape.proofs.TurnLemmas.{shaped_entered}
+use Rattle.ot_shape.specs.Shaped.{AreShaped}
+use Rattle.ot_shape.proofs.TurnLemmas.{shaped_from}
 use Rattle.ot_shape.proofs.shaping.shape_planned.Goals as goal
 
-pub returns-clause-clusters : goal.returns-clause-clusters
-returns-clause-clusters g c =
-    let s = c.args.buffer in
+pub returns : goal.returns
+returns g c =
+    let s = c.args.text in
     let t = c.shape_buffer.new.buffer in
+    let made = c.in_ok-shape_buffer.ensures in
     let done : c.in_ok-shape_buffer.field-0 ≡ true = grind (arith, common_steps) in
-    subst (ShapedClusters s) (sym c.from_buffer.ensures.is)
-    (shaped_entered s t (subst (λ (b : State). ShapedClusters b t) c.enter.ensures.is
-    (c.in_ok-shape_buffer.ensures.clusters done)))
+    record {
+      glyphs = subst (AreShaped s.direction s) (sym c.from_buffer.ensures.is)
+          (shaped_from s _ t c.enter.ensures.is (record { closed = made.closed done; placed = made.placed done })
+          (made.within done) (made.direction done) (made.clusters done));
+      named = tt;
+    }

@@ -1,8 +1,8 @@
 use Rattle.std.proofs.Common.{◌∙◌}
-use Rattle.ot_shape.proofs.TurnLemmas.{of_guessed}
+use Rattle.ot_shape.proofs.TurnLemmas.{shapes_guessed}
 use Rattle.ot_shape.proofs.with_plans.shape_with_plan_watched.Goals as goal
 
-pub returns-clause-clusters : goal.returns-clause-clusters
-returns-clause-clusters g c =
-    of_guessed c.args.text c.into_buffer-buffer.result c.shape_by_plan.result
-    (c.into_buffer-buffer.ensures.is ∙ c.guess_segment_properties.ensures) c.shape_by_plan.ensures.clusters
+pub returns-clause-shapes : goal.returns-clause-shapes
+returns-clause-shapes g c =
+    (shapes_guessed c.args.text c.into_buffer-buffer.result c.shape_by_plan.result
+    (c.into_buffer-buffer.ensures.is ∙ c.guess_segment_properties.ensures) c.shape_by_plan.ensures).glyphs
