@@ -7,6 +7,8 @@ use Rattle.std.proofs.lemmas.Bool.{cases_Bool}
 use Rattle.font_tables.specs.declared.coverage.Coverage.{Coverage}
 use Rattle.rb_glyph.specs.declared.info.hb_glyph_info_t.{hb_glyph_info_t}
 use Rattle.ot_contexts.specs.Context.{class_meanings, context_rule, covered_rule, next_walk, numbered_set, same_match_function}
+use Rattle.ot_lookups.specs.SubtableKinds.{as_context, is_chained}
+use Rattle.ot_lookups.specs.declared.subtable_kind.ContextFormat.TheVariants as format
 use Rattle.glyph_digests.specs.Digest.{HasAll, may_have}
 use Rattle.ot_layout.specs.SkippingIterator.{class_in, may_ignore, next_found, skip_of, place_of}
 use Rattle.glyph_digests.specs.Covered.{covered_index}
@@ -68,26 +70,28 @@ place_of-missed_end w x gs one = place_of-last w x gs 0 (omega (arith, one))
 pub ruleset missed = (place_of-missed_other, place_of-missed_end)
 
 -- the rules of a context, by its format
-pub context_rule-glyphs : (cs : List Coverage) (t : Subtable) (i : ℕ) (chained : Bool) (s : ApplyContext) → t.format ≡ 1
-    → context_rule cs t i chained s ≡ rule_of_set s chained (same_match_function Glyphs) (numbered_set t.table.now 4 i)
+pub context_rule-glyphs : (cs : List Coverage) (t : Subtable) (i : ℕ) (s : ApplyContext) → as_context t.kind ≡ Some format.Glyphs
+    → context_rule cs t i s
+    ≡ rule_of_set s (is_chained t.kind) (same_match_function Glyphs) (numbered_set t.table.now 4 i)
 unfolding context_rule
-context_rule-glyphs cs t i chained s is = rw is refl
+context_rule-glyphs cs t i s is = rw is refl
 
-pub context_rule-classes : (cs : List Coverage) (t : Subtable) (i : ℕ) (chained : Bool) (s : ApplyContext) → t.format ≡ 2
-    → context_rule cs t i chained s ≡ rule_of_set s chained (class_meanings t)
-    (numbered_set t.table.now (if chained then 10 else 6) (class_in t.classes.table.now (glyph_at s.input.now 0).glyph_id))
+pub context_rule-classes : (cs : List Coverage) (t : Subtable) (i : ℕ) (s : ApplyContext) → as_context t.kind ≡ Some format.Classes
+    → context_rule cs t i s ≡ rule_of_set s (is_chained t.kind) (class_meanings t)
+    (numbered_set t.table.now (if is_chained t.kind then 10 else 6)
+    (class_in t.classes.table.now (glyph_at s.input.now 0).glyph_id))
 unfolding context_rule
-context_rule-classes cs t i chained s is = rw is refl
+context_rule-classes cs t i s is = rw is refl
 
-pub context_rule-covered : (cs : List Coverage) (t : Subtable) (i : ℕ) (chained : Bool) (s : ApplyContext) → t.format ≡ 3
-    → context_rule cs t i chained s ≡ fitting s (covered_rule cs t chained)
+pub context_rule-covered : (cs : List Coverage) (t : Subtable) (i : ℕ) (s : ApplyContext) → as_context t.kind ≡ Some format.Coverages
+    → context_rule cs t i s ≡ fitting s (covered_rule cs t)
 unfolding context_rule
-context_rule-covered cs t i chained s is = rw is refl
+context_rule-covered cs t i s is = rw is refl
 
-pub context_rule-none : (cs : List Coverage) (t : Subtable) (i : ℕ) (chained : Bool) (s : ApplyContext) → t.format ≢ 1
-    → t.format ≢ 2 → t.format ≢ 3 → context_rule cs t i chained s ≡ None
+pub context_rule-none : (cs : List Coverage) (t : Subtable) (i : ℕ) (s : ApplyContext) → as_context t.kind ≡ None
+    → context_rule cs t i s ≡ None
 unfolding context_rule
-context_rule-none cs t i chained s one two three = grind (arith, common_steps)
+context_rule-none cs t i s is = rw is refl
 
 -- a rule that fits is one that fits
 fitting_by : (s : ApplyContext) (o : Option Pattern) (places : List ℕ) (fit : Fit) → IsFitBy s o places fit

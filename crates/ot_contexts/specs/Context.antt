@@ -1,11 +1,14 @@
 -- What a rule that fits at the cursor takes of the glyphs around it, and which rules a context has.
-use Rattle.std.specs.Prelude.{ℕ, ◌+◌, ◌*◌, ◌==◌, ◌<◌, ◌≤◌, ◌≡◌, Bool, List, drop, Option, None, if◌then◌else◌, nat_lt, option_and_then, option_map, unwrap_or}
+use Rattle.std.specs.Prelude.{ℕ, ◌+◌, ◌*◌, ◌<◌, ◌≤◌, ◌≡◌, List, drop, Option, None, if◌then◌else◌, nat_lt, option_and_then, option_map, unwrap_or}
 use Rattle.font_tables.specs.Bytes.{number_16, table_at_16}
 use Rattle.font_tables.specs.declared.coverage.Coverage.{Coverage}
 use Rattle.ot_contexts.specs.Pattern.{Pattern, covered_pattern, fitting}
 use Rattle.ot_contexts.specs.RuleSet.{rule_of_set}
 use Rattle.ot_layout.specs.SkippingIterator.{class_in, next_found, place_of}
 use Rattle.ot_lookups.specs.LookupProps.{glyph_at}
+use Rattle.ot_lookups.specs.SubtableKinds.{as_context, is_chained}
+use Rattle.ot_lookups.specs.declared.subtable_kind.ContextFormat.{ContextFormat}
+use Rattle.ot_lookups.specs.declared.subtable_kind.ContextFormat.TheVariants as format
 use Rattle.ot_contexts.specs.declared.context.Fit.{Fit}
 use Rattle.ot_contexts.specs.declared.context.SequenceLookupRecord.{SequenceLookupRecord}
 use Rattle.ot_contexts.specs.declared.rule.MatchFunction.{MatchFunction}
@@ -57,18 +60,22 @@ class_meanings subtable = record {
 }
 
 -- the rule of a context by coverages, of which its own begin at a place in a list
-abbrev pub covered_rule : List Coverage → Subtable → Bool → Option Pattern
-covered_rule coverages subtable is_chained =
-    covered_pattern is_chained (drop subtable.first_coverage coverages) subtable.table.now
+abbrev pub covered_rule : List Coverage → Subtable → Option Pattern
+covered_rule coverages subtable =
+    covered_pattern (is_chained subtable.kind) (drop subtable.first_coverage coverages) subtable.table.now
 
--- the rule of a context that is taken at the cursor: the first of the set of the coverage index (format 1), or of the class of the glyph
--- there (format 2), or the only rule, by coverages (format 3), if it fits
-unfoldable pub context_rule : List Coverage → Subtable → ℕ → Bool → ApplyContext → Option Pattern
-context_rule coverages subtable index is_chained ctx =
-    if subtable.format == 1
-    then rule_of_set ctx is_chained (same_match_function Glyphs) (numbered_set subtable.table.now 4 index)
-    else if subtable.format == 2
-    then rule_of_set ctx is_chained (class_meanings subtable)
-    (numbered_set subtable.table.now (if is_chained then 10 else 6)
+-- the rule of a context of a format that is taken at the cursor: the first of the set of the coverage index, or of the class of the glyph
+-- there, or the only rule, by coverages, if it fits
+abbrev pub rule_by : ContextFormat → List Coverage → Subtable → ℕ → ApplyContext → Option Pattern
+rule_by format.Glyphs coverages subtable index ctx =
+    rule_of_set ctx (is_chained subtable.kind) (same_match_function Glyphs) (numbered_set subtable.table.now 4 index)
+rule_by format.Classes coverages subtable index ctx =
+    rule_of_set ctx (is_chained subtable.kind) (class_meanings subtable)
+    (numbered_set subtable.table.now (if is_chained subtable.kind then 10 else 6)
     (class_in subtable.classes.table.now (glyph_at ctx.input.now 0).glyph_id))
-    else if subtable.format == 3 then fitting ctx (covered_rule coverages subtable is_chained) else None
+rule_by format.Coverages coverages subtable index ctx = fitting ctx (covered_rule coverages subtable)
+
+-- that of a subtable; one that is no context has none
+unfoldable pub context_rule : List Coverage → Subtable → ℕ → ApplyContext → Option Pattern
+context_rule coverages subtable index ctx =
+    option_and_then (λ format. rule_by format coverages subtable index ctx) (as_context subtable.kind)

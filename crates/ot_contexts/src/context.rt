@@ -1,11 +1,10 @@
-//! Contexts: rules of glyphs at the cursor, before them and after them, as the kinds 5 and 6 of `GSUB` have them, and the
-//! kinds 7 and 8 of `GPOS` (OpenType specification, "OpenType Layout Common Table Formats", "Sequence Context").
+//! Contexts: rules of glyphs at the cursor, before them and after them, as `GSUB` and `GPOS` have them (OpenType specification,
+//! "OpenType Layout Common Table Formats", "Sequence Context").
 
 ghost use Rattle.std.specs.Prelude.{◌≡◌, ◌<◌, ◌≤◌, length, IfSome, IsTrue, Some, is_some, option_copied};
 ghost use Rattle.ot_layout.specs.Budget.{IsNotMore};
 ghost use Rattle.ot_contexts.specs.Context.{IsFitWithin, IsMissed, class_meanings, context_rule, covered_rule, next_walk, record_at};
 ghost use Rattle.ot_contexts.specs.Context.{numbered_set, same_match_function};
-ghost use Rattle.ot_lookups.specs.Forms.{is_chained_type};
 ghost use Rattle.ot_lookups.specs.NextAsked.{IsNextOf};
 ghost use Rattle.ot_contexts.specs.Pattern.{IsFitBy, rule_fits};
 ghost use Rattle.ot_layout.specs.SkippingIterator.{skip_of};
@@ -19,6 +18,7 @@ use ot_layout::search::{ApplyContext, Search};
 use ot_layout::skipping_iterator::Skip;
 use ot_lookups::lookup_list::LookupList;
 use ot_lookups::subtable::{NextAsked, Subtable};
+use ot_lookups::subtable_kind::ContextFormat;
 use rb_glyph::hb_glyph_info_t;
 
 /// How deep lookups may apply others (HarfBuzz, `HB_MAX_NESTING_LEVEL`).
@@ -63,14 +63,13 @@ impl<'a> Fit<'a> {
     }
 }
 
-/// The rule of a subtable that is taken at the cursor: the first of its set that fits. The subtable is one of the list, and a context,
-/// chained or not; its coverage has the glyph at the cursor, at this index.
+/// The rule of a subtable that is taken at the cursor: the first of its set that fits. The subtable is one of the list; its coverage has
+/// the glyph at the cursor, at this index. One that is no context has no rule.
 #[tactic(auto, using(crate::proofs::ContextLemmas::formats))]
 pub fn fitting_rule<'a>(
     list: &'a LookupList<'a>,
     subtable: &Subtable<'a>,
     index: u32,
-    is_chained: bool,
     ctx: &ApplyContext,
     search: &mut Search,
 ) -> Option<Fit<'a>>
@@ -78,25 +77,23 @@ pub fn fitting_rule<'a>(
     ensures spent { IsNotMore search.old.budget search.new.budget }
     ensures fits { IfSome result (IsFitWithin (length ctx.now.out.now) (length ctx.now.input.now)) }
     ensures rule { IfSome result
-        (IsFitBy ctx.now (context_rule list.now.coverages.items subtable.now index is_chained ctx.now)
-        search.new.places.items) }
-    ensures exact { is_chained ≡ is_chained_type subtable.now.lookup_type
-        → IsNextOf list.now.coverages.items subtable.now → 0 < search.new.budget.steps
-        → is_some result ≡ is_some (context_rule list.now.coverages.items subtable.now index is_chained ctx.now) }
+        (IsFitBy ctx.now (context_rule list.now.coverages.items subtable.now index ctx.now) search.new.places.items) }
+    ensures exact { IsNextOf list.now.coverages.items subtable.now → 0 < search.new.budget.steps
+        → is_some result ≡ is_some (context_rule list.now.coverages.items subtable.now index ctx.now) }
 {
     let table = subtable.table;
-    let (set, match_functions) = match subtable.format {
-        1 => (
+    let is_chained = subtable.kind.is_chained();
+    let (set, match_functions) = match subtable.kind.as_context()? {
+        ContextFormat::Glyphs => (
             set_at(table, 4, index)?,
             same_match_function(MatchFunction::Glyphs),
         ),
-        2 => {
+        ContextFormat::Classes => {
             let class = class_of(&subtable.classes, ctx.input[0].glyph_id);
             let set = set_at(table, if is_chained { 10 } else { 6 }, u32::from(class))?;
             (set, class_meanings(subtable))
         }
-        3 => return covered_fit(list, subtable, is_chained, ctx, search),
-        _ => return None,
+        ContextFormat::Coverages => return covered_fit(list, subtable, ctx, search),
     };
     let rules = RuleSet {
         table: set,
@@ -111,18 +108,16 @@ pub fn fitting_rule<'a>(
 fn covered_fit<'a>(
     list: &'a LookupList<'a>,
     subtable: &Subtable<'a>,
-    is_chained: bool,
     ctx: &ApplyContext,
     search: &mut Search,
 ) -> Option<Fit<'a>>
     requires { 0 < length ctx.now.input.now }
     ensures spent { IsNotMore search.old.budget search.new.budget }
     ensures fits { IfSome result (IsFitWithin (length ctx.now.out.now) (length ctx.now.input.now)) }
-    ensures rule { IfSome result (IsFitBy ctx.now (covered_rule list.now.coverages.items subtable.now is_chained)
-        search.new.places.items) }
-    ensures exact { is_chained ≡ is_chained_type subtable.now.lookup_type → IsNextOf list.now.coverages.items subtable.now
-        → 0 < search.new.budget.steps
-        → is_some result ≡ rule_fits ctx.now (covered_rule list.now.coverages.items subtable.now is_chained) }
+    ensures rule { IfSome result
+        (IsFitBy ctx.now (covered_rule list.now.coverages.items subtable.now) search.new.places.items) }
+    ensures exact { IsNextOf list.now.coverages.items subtable.now → 0 < search.new.budget.steps
+        → is_some result ≡ rule_fits ctx.now (covered_rule list.now.coverages.items subtable.now) }
 {
     if let Some(next) = &subtable.next
         && let Some(to) = missed_next(next, ctx)
@@ -133,7 +128,7 @@ fn covered_fit<'a>(
     }
     let coverages = list.coverages_from(subtable, 0);
     fit(
-        &coverage_rule(subtable.table, coverages, is_chained)?,
+        &coverage_rule(subtable.table, coverages, subtable.kind.is_chained())?,
         ctx,
         search,
     )

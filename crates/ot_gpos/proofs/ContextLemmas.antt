@@ -1,8 +1,8 @@
 -- The rule of a context that is found, and its records one after the other.
-use Rattle.std.proofs.Common.{◌≡◌, ℕ, zero, suc, ◌+◌, ◌-◌, ◌==◌, ◌≤◌, ◌||◌, not, Bool, true, false, List, Option, Some, None, is_some}
-use Rattle.std.proofs.Common.{refl, sym, ap, subst, ◌∙◌, arith, inl, inr}
+use Rattle.std.proofs.Common.{◌≡◌, ℕ, zero, suc, ◌+◌, ◌-◌, ◌≤◌, true, false, List, Option, Some, None, is_some}
+use Rattle.std.proofs.Common.{refl, sym, ap, subst, ◌∙◌, arith}
 use Rattle.std.specs.Prelude.{IfNone, IfSome}
-use Rattle.std.proofs.lemmas.Bool.{eqb-true, false≢true, not-false, or_cases}
+use Rattle.std.proofs.lemmas.Bool.{false≢true}
 use Rattle.rb_glyph.specs.declared.info.hb_glyph_info_t.{hb_glyph_info_t}
 use Rattle.ot_lookups.specs.declared.lookup_list.Lookup.{Lookup}
 use Rattle.ot_lookups.specs.declared.lookup_list.LookupList.{LookupList}
@@ -20,14 +20,6 @@ use Rattle.ot_gpos.specs.Visit.{Visit}
 
 -- ---- the rule
 
--- of the two kinds of contexts of `GPOS` one is chained
-pub eq-chained : (kind : ℕ) → not ((kind == 7) || (kind == 8)) ≡ false → (kind == 8) ≡ ((kind == 6) || (kind == 8))
-eq-chained kind context =
-    elim (or_cases (kind == 7) (kind == 8) (not-false ((kind == 7) || (kind == 8)) context)) [
-      | inl plain ↦ subst (λ (k : ℕ). (k == 8) ≡ ((k == 6) || (k == 8))) (sym (eqb-true kind 7 plain)) refl
-      | inr chained ↦ subst (λ (k : ℕ). (k == 8) ≡ ((k == 6) || (k == 8))) (sym (eqb-true kind 8 chained)) refl
-    ]
-
 found_of : (ctx : ApplyContext) (rule : Option Pattern) (places : List ℕ) (found : Option Fit) → is_some found ≡ is_some rule
     → IfSome found (IsFitBy ctx rule places) → IsFound ctx rule places found
 found_of ctx None places None same fits = refl
@@ -36,17 +28,14 @@ found_of ctx None places (Some fit) same fits = fits
 found_of ctx (Some p) places (Some fit) same fits = fits
 
 pub decided_by : (list : LookupList) (visit : Visit) (context : SkippingIterator) (gs : List hb_glyph_info_t) (ctx : ApplyContext)
-    (is_chained : Bool) (places : List ℕ) (found : Option Fit)
-    → is_some found ≡ is_some (context_rule list.coverages.items visit.subtable visit.index is_chained ctx)
-    → IfSome found (IsFitBy ctx (context_rule list.coverages.items visit.subtable visit.index is_chained ctx) places)
-    → is_chained ≡ (visit.subtable.lookup_type == 8)
+    (places : List ℕ) (found : Option Fit)
+    → is_some found ≡ is_some (context_rule list.coverages.items visit.subtable visit.index ctx)
+    → IfSome found (IsFitBy ctx (context_rule list.coverages.items visit.subtable visit.index ctx) places)
     → IsAround visit context gs ctx → IsDecided list visit context gs places found
-decided_by list visit context gs ctx is_chained places found same fits kind around = record {
+decided_by list visit context gs ctx places found same fits around = record {
   ctx = ctx;
   around = around;
-  fits = subst
-      (λ (b : Bool). IsFound ctx (context_rule list.coverages.items visit.subtable visit.index b ctx) places found) kind
-      (found_of ctx (context_rule list.coverages.items visit.subtable visit.index is_chained ctx) places found same fits);
+  fits = found_of ctx (context_rule list.coverages.items visit.subtable visit.index ctx) places found same fits;
 }
 
 -- the same of glyphs and a walk, as they were read, and of an answer

@@ -1,7 +1,7 @@
 -- A context at its glyph: the first rule that matches there applies its lookups, in order, each at the glyph of the match that its record
 -- names (OpenType, "Lookup type 7: contextual positioning", "Lookup type 8: chained contexts positioning", "Sequence lookup record";
 -- HarfBuzz, `apply_lookup`).
-use Rattle.std.specs.Prelude.{◌≡◌, ℕ, zero, suc, ◌+◌, ◌-◌, ◌^◌, ◌==◌, true, List, drop, take, min, slice_get, Option, None, Some}
+use Rattle.std.specs.Prelude.{◌≡◌, ℕ, zero, suc, ◌+◌, ◌-◌, ◌^◌, true, List, drop, take, min, slice_get, Option, None, Some}
 use Rattle.std.specs.Prelude.{option_and_then, option_map}
 use Rattle.rb_glyph.specs.declared.info.hb_glyph_info_t.{hb_glyph_info_t}
 use Rattle.shaping_buffer.specs.State.{State}
@@ -30,10 +30,10 @@ pub record IsAround (visit : Visit) (walk : SkippingIterator) (gs : List hb_glyp
   pub syllable : ctx.syllable ≡ 0
   pub level : ctx.is_level ≡ true
 
--- the rule of a context that is taken at its glyph; those of kind 8 are chained
+-- the rule of a context that is taken at its glyph
 abbrev pub rule_at : LookupList → Visit → ApplyContext → Option Pattern
 rule_at list visit ctx =
-    context_rule list.coverages.items visit.subtable visit.index (visit.subtable.lookup_type == 8) ctx
+    context_rule list.coverages.items visit.subtable visit.index ctx
 
 -- a rule, if there is one, is found to fit, with the glyphs of its match at these places from the glyph on
 abbrev pub IsFound : ApplyContext → Option Pattern → List ℕ → Option Fit → Type 0

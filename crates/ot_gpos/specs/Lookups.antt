@@ -1,7 +1,8 @@
 -- What a subtable of a lookup does at a glyph, if it is no context.
-use Rattle.std.specs.Prelude.{ℕ, ◌==◌, ◌||◌, Bool, true, not, Option}
+use Rattle.std.specs.Prelude.{ℕ, Bool, true, not, Option, is_some}
 use Rattle.shaping_buffer.specs.State.{State}
 use Rattle.ot_layout.specs.SkippingIterator.{over_input}
+use Rattle.ot_lookups.specs.SubtableKinds.{as_context}
 use Rattle.ot_lookups.specs.declared.lookup_list.Lookup.{Lookup}
 use Rattle.ot_lookups.specs.declared.lookup_list.LookupList.{LookupList}
 use Rattle.ot_layout.specs.declared.skipping_iterator.LookupOptions.{LookupOptions}
@@ -38,9 +39,9 @@ pub record Outcome : Type 0 where
 abbrev pub outcome : Text → Option ℕ → Outcome
 outcome text next = record { text = text; next = next }
 
--- whether a subtable is no context (kinds 7 and 8)
+-- whether a subtable is no context, chained or not
 abbrev pub is_simple : Subtable → Bool
-is_simple subtable = not ((subtable.lookup_type == 7) || (subtable.lookup_type == 8))
+is_simple subtable = not (is_some (as_context subtable.kind))
 
 -- a subtable at the glyph of a place, with its coverage index
 abbrev pub visit_by : Applied → ℕ → Subtable → ℕ → Visit
@@ -56,7 +57,7 @@ visit_by a place subtable index = record {
 -- what comes of one that is no context, by its kind
 abbrev pub outcome_at : Visit → Text → Outcome
 outcome_at visit old =
-    let kind = visit.subtable.lookup_type in
+    let kind = visit.subtable.kind in
     outcome
     (record old {
       buffer = simple_at kind visit old.last old.buffer;

@@ -1,5 +1,5 @@
 -- Adjustments of pairs, at their first glyph (OpenType, "Pair adjustment").
-use Rattle.std.specs.Prelude.{ℕ, ◌-◌, ◌==◌, ◌&&◌, ◌||◌, Bool, not, List, [], Option, None, Some, length}
+use Rattle.std.specs.Prelude.{ℕ, ◌-◌, ◌&&◌, ◌||◌, Bool, true, false, not, List, [], Option, None, Some, length}
 use Rattle.std.specs.Prelude.{if◌then◌else◌, nat_eq, nat_lt, min, unwrap_or, option_and_then}
 use Rattle.std.specs.Option.{option_map_or}
 use Rattle.rb_common.specs.Direction.{is_horizontal}
@@ -9,6 +9,9 @@ use Rattle.shaping_buffer.specs.State.{State}
 use Rattle.ot_lookups.specs.Lookup.{is_for}
 use Rattle.ot_layout.specs.SkippingIterator.{class_in, next_found}
 use Rattle.ot_lookups.specs.LookupProps.{glyph_at}
+use Rattle.ot_lookups.specs.declared.subtable_kind.SubtableKind.{SubtableKind}
+use Rattle.ot_lookups.specs.declared.subtable_kind.SubtableKind.TheVariants.{PairAdjustment}
+use Rattle.ot_lookups.specs.declared.subtable_kind.PairFormat.TheVariants as format
 use Rattle.ot_layout.specs.declared.matcher.Matcher.TheVariants.{Shown}
 use Rattle.ot_layout.specs.declared.skipping_iterator.Found.{Found}
 use Rattle.ot_layout.specs.declared.skipping_iterator.Found.TheVariants.{At, Other, End}
@@ -28,27 +31,31 @@ table_of visit = visit.subtable.table.now
 abbrev pub uses_second : Visit → Bool
 uses_second visit = not (nat_eq (number (table_of visit) 6) 0)
 
--- whether pairs are those of two classes (format 2), and else those of two glyphs
-abbrev pub is_classed : Visit → Bool
-is_classed visit = visit.subtable.format == 2
+-- whether pairs are those of two classes
+abbrev pub is_classed : SubtableKind → Bool
+is_classed (PairAdjustment format.Classes) = true
+is_classed _ = false
 
 -- from where the offsets of device tables are counted: the subtable of classes, or the set of the first glyph's pairs
 abbrev pub pair_base : Visit → List ℕ
-pair_base visit = if is_classed visit then table_of visit else unwrap_or (pair_set (table_of visit) visit.index) []
+pair_base visit = if is_classed visit.subtable.kind then table_of visit else unwrap_or (pair_set (table_of visit) visit.index) []
 
 -- the records of a pair in a set of pairs; no glyph past 65,535 is in one
 abbrev pub listed_records : Visit → ℕ → List ℕ → Option PairValues
 listed_records visit second set =
     if nat_lt second 65536 then listed_pair set (number (table_of visit) 4) (number (table_of visit) 6) second else None
 
--- The records of two glyphs: those of the second one in the set of the first (format 1), or those of their classes (format 2).
+-- The records of two glyphs: those of the second one in the set of the first, or those of their classes.
+abbrev pub records_by : SubtableKind → Visit → ℕ → ℕ → Option PairValues
+records_by (PairAdjustment format.Glyphs) visit first second =
+    option_and_then (listed_records visit second) (pair_set (table_of visit) visit.index)
+records_by (PairAdjustment format.Classes) visit first second =
+    classed_pair (table_of visit) (class_in visit.subtable.classes.table.now first)
+    (class_in visit.subtable.lookahead_classes.table.now second)
+records_by _ visit first second = None
+
 unfoldable pub pair_records : Visit → ℕ → ℕ → Option PairValues
-pair_records visit first second =
-    if visit.subtable.format == 1
-    then option_and_then (listed_records visit second) (pair_set (table_of visit) visit.index)
-    else if is_classed visit
-    then classed_pair (table_of visit) (class_in visit.subtable.classes.table.now first)
-    (class_in visit.subtable.lookahead_classes.table.now second) else None
+pair_records visit first second = records_by visit.subtable.kind visit first second
 
 -- whether records may move a pair in a line of this direction
 abbrev pub pair_has_effect : Visit → Bool → PairValues → Bool

@@ -1,6 +1,8 @@
 -- What a subtable makes of its glyph, by its kind.
-use Rattle.std.specs.Prelude.{ℕ, ◌==◌, true, false, List, Option, if◌then◌else◌}
+use Rattle.std.specs.Prelude.{ℕ, true, false, List, Option}
 use Rattle.rb_glyph.specs.declared.info.hb_glyph_info_t.{hb_glyph_info_t}
+use Rattle.ot_lookups.specs.declared.subtable_kind.SubtableKind.{SubtableKind}
+use Rattle.ot_lookups.specs.declared.subtable_kind.SubtableKind.TheVariants.{CursiveAttachment, MarkToBase, MarkToLigature, MarkToMark, PairAdjustment, SingleAdjustment}
 use Rattle.shaping_buffer.specs.State.{State}
 use Rattle.ot_gpos.specs.Adjustments.{single, single_next}
 use Rattle.ot_gpos.specs.Attachments.{base_of, base_sought, ligature_of, mark_next, mark_of, mark_placed}
@@ -12,28 +14,29 @@ use Rattle.ot_gpos.specs.declared.marks.LastBase.{LastBase}
 use Rattle.ot_gpos.specs.Visit.{Visit}
 
 -- what is remembered of bases behind the glyph
-abbrev pub bases_at : ℕ → Visit → List hb_glyph_info_t → LastBase → LastBase
-bases_at kind visit gs last =
-    if kind == 4 then base_sought true visit gs last else if kind == 5 then base_sought false visit gs last else last
+abbrev pub bases_at : SubtableKind → Visit → List hb_glyph_info_t → LastBase → LastBase
+bases_at MarkToBase visit gs last = base_sought true visit gs last
+bases_at MarkToLigature visit gs last = base_sought false visit gs last
+bases_at _ visit gs last = last
 
--- where a subtable of marks attaches its mark: to a base (4), a ligature (5) or another mark (6)
-abbrev pub attachment_at : ℕ → Visit → List hb_glyph_info_t → LastBase → AttachmentFound
-attachment_at kind visit gs last =
-    if kind == 4 then base_of visit gs (bases_at kind visit gs last)
-    else if kind == 5 then ligature_of visit gs (bases_at kind visit gs last)
-    else if kind == 6 then mark_of visit gs else Nothing
+-- where a subtable of marks attaches its mark
+abbrev pub attachment_at : SubtableKind → Visit → List hb_glyph_info_t → LastBase → AttachmentFound
+attachment_at MarkToBase visit gs last = base_of visit gs (base_sought true visit gs last)
+attachment_at MarkToLigature visit gs last = ligature_of visit gs (base_sought false visit gs last)
+attachment_at MarkToMark visit gs last = mark_of visit gs
+attachment_at _ visit gs last = Nothing
 
--- A subtable that is no context (7 and 8) adjusts its glyph (1), adjusts it with the next one (2), joins it to the one before (3), or
--- attaches it (4, 5 and 6); one of an unknown kind does nothing.
-abbrev pub simple_at : ℕ → Visit → LastBase → State → State
-simple_at kind visit last s =
-    if kind == 1 then single visit s else if kind == 2 then pair visit s
-    else if kind == 3 then cursive_placed visit (join_of visit s.input) s
-    else mark_placed visit.place (attachment_at kind visit s.input last) s
+-- A subtable that is no context adjusts its glyph, adjusts it with the next one, joins it to the one before, or attaches it; one of
+-- `GSUB` does nothing.
+abbrev pub simple_at : SubtableKind → Visit → LastBase → State → State
+simple_at SingleAdjustment visit last s = single visit s
+simple_at (PairAdjustment format) visit last s = pair visit s
+simple_at CursiveAttachment visit last s = cursive_placed visit (join_of visit s.input) s
+simple_at kind visit last s = mark_placed visit.place (attachment_at kind visit s.input last) s
 
 -- and where the lookup goes on, if the subtable was for the glyph
-abbrev pub simple_next : ℕ → Visit → LastBase → State → Option ℕ
-simple_next kind visit last s =
-    if kind == 1 then single_next visit else if kind == 2 then pair_next visit s
-    else if kind == 3 then cursive_next visit (join_of visit s.input)
-    else mark_next visit.place (attachment_at kind visit s.input last)
+abbrev pub simple_next : SubtableKind → Visit → LastBase → State → Option ℕ
+simple_next SingleAdjustment visit last s = single_next visit
+simple_next (PairAdjustment format) visit last s = pair_next visit s
+simple_next CursiveAttachment visit last s = cursive_next visit (join_of visit s.input)
+simple_next kind visit last s = mark_next visit.place (attachment_at kind visit s.input last)

@@ -1,8 +1,7 @@
 //! Contexts: which rule fits at a glyph (HarfBuzz, `ContextPos`, `ChainContextPos`).
 
-ghost use Rattle.std.specs.Prelude.{◌≡◌, ◌<◌, false, length};
+ghost use Rattle.std.specs.Prelude.{◌≡◌, ◌<◌, length};
 ghost use Rattle.ot_gpos.specs.Contexts.{IsDecided};
-ghost use Rattle.ot_gpos.specs.Lookups.{is_simple};
 ghost use Rattle.ot_gpos.specs.Visit.{visit_of};
 ghost use Rattle.ot_layout.specs.Budget.{IsNotMore};
 ghost use Rattle.ot_lookups.specs.NextAsked.{IsNextOf};
@@ -13,9 +12,6 @@ use ot_layout::search::{ApplyContext, Reach, Search};
 use ot_layout::skipping_iterator::SkippingIterator;
 use ot_lookups::lookup_list::LookupList;
 use rb_glyph::hb_glyph_info_t;
-
-/// The kind of chained contexts.
-pub(crate) const CHAINED_CONTEXT: u16 = 8;
 
 /// The rule that fits at the glyph; how far rules that do not fit have looked stands in the search. The places of the rule's glyphs
 /// are counted from the glyph. No lookup is applied, so that as many may be as before.
@@ -28,7 +24,6 @@ pub(crate) fn fit_at<'a>(
 ) -> Option<Fit<'a>>
     requires within { turn.now.place < length glyphs.now }
     requires next { IsNextOf list.now.coverages.items turn.now.subtable.now }
-    requires is_context { is_simple turn.now.subtable.now ≡ false }
     ensures spent { IsNotMore search.old.budget search.new.budget }
     ensures same_left { search.new.budget.nested ≡ search.old.budget.nested }
     ensures decided { 0 < search.new.budget.steps
@@ -44,8 +39,7 @@ pub(crate) fn fit_at<'a>(
         syllable: 0,
         is_level: true,
     };
-    let is_chained = turn.subtable.lookup_type == CHAINED_CONTEXT;
-    let found = fitting_rule(list, turn.subtable, turn.index, is_chained, &ctx, search);
+    let found = fitting_rule(list, turn.subtable, turn.index, &ctx, search);
     search.budget.nested = nested;
     found
 }

@@ -34,6 +34,7 @@ use ot_layout::skipping_iterator::{LookupOptions, SkippingIterator};
 use ot_lookups::lookup_list::Lookup;
 use ot_lookups::lookup_props::covered_index;
 use ot_lookups::subtable::Subtable;
+use ot_lookups::subtable_kind::SubtableKind;
 use rb_glyph::hb_glyph_info_t;
 use shaping_buffer::hb_buffer_t;
 use std::mem;
@@ -232,32 +233,34 @@ fn place_by_subtable<'a, P: ContourPoints>(
         → IsVisited (others.nested task.now.depth a) a (visit_of turn.now) (text_of buffer.old last.old search.old.budget.nested)
         (outcome (text_of buffer.new last.new search.new.budget.nested) result) }
 {
-    match turn.subtable.lookup_type {
-        7 | 8 => place_by_context(buffer, task, turn, search, last),
-        kind => place_by_simple(buffer, kind, turn, last, task.setting.points),
+    if turn.subtable.kind.as_context().is_some() {
+        place_by_context(buffer, task, turn, search, last)
+    } else {
+        place_by_simple(buffer, turn, last, task.setting.points)
     }
 }
 
-/// Positions the glyph by a subtable of this kind, which is no context.
+/// Positions the glyph by a subtable that is no context.
 fn place_by_simple<P: ContourPoints>(
     buffer: &mut hb_buffer_t,
-    kind: u16,
     turn: &Turn,
     last: &mut LastBase,
     points: &P,
 ) -> Option<usize>
     requires placed { HasPositions buffer.old }
-    ensures last { last.new ≡ bases_at kind (visit_of turn.now) buffer.old.input last.old }
-    ensures next { HasNoPixels turn.now.instance.now → result ≡ simple_next kind (visit_of turn.now) last.old buffer.old }
-    ensures is { HasNoPixels turn.now.instance.now → buffer.new ≡ simple_at kind (visit_of turn.now) last.old buffer.old }
+    ensures last { last.new ≡ bases_at turn.now.subtable.now.kind (visit_of turn.now) buffer.old.input last.old }
+    ensures next { HasNoPixels turn.now.instance.now → result
+        ≡ simple_next turn.now.subtable.now.kind (visit_of turn.now) last.old buffer.old }
+    ensures is { HasNoPixels turn.now.instance.now → buffer.new
+        ≡ simple_at turn.now.subtable.now.kind (visit_of turn.now) last.old buffer.old }
     ensures kept { KeepsText buffer.old buffer.new }
 {
-    match kind {
-        1 => place_single(buffer, turn),
-        2 => place_pair(buffer, turn),
-        3 => place_cursive(buffer, turn, points),
+    match turn.subtable.kind {
+        SubtableKind::SingleAdjustment => place_single(buffer, turn),
+        SubtableKind::PairAdjustment(_) => place_pair(buffer, turn),
+        SubtableKind::CursiveAttachment => place_cursive(buffer, turn, points),
         _ => {
-            let found = attachment_at(buffer.info(), kind, turn, last, points);
+            let found = attachment_at(buffer.info(), turn, last, points);
             attach_mark(buffer, turn.place, &found)
         }
     }
@@ -276,7 +279,6 @@ fn place_by_context<'a, P: ContourPoints>(
     requires within { context.now.place < length buffer.old.input }
     requires place { context.now.place ≡ task.now.place }
     requires next { IsNextOf task.now.setting.now.list.now.coverages.items context.now.subtable.now }
-    requires is_context { is_simple context.now.subtable.now ≡ false }
     ensures kept { KeepsText buffer.old buffer.new }
     ensures spent { IsNotMore search.old.budget search.new.budget }
     ensures exact { let a = applied task.now.setting.now.list.now task.now.lookup.now task.now.options.now task.now.setting.now.instance in

@@ -17,6 +17,7 @@ use ot_gpos_tables::contour_points::ContourPoints;
 use ot_layout::matcher::Matcher;
 use ot_layout::skipping_iterator::{Found, Skip, SkippingIterator};
 use ot_lookups::lookup_props::{LookupProps, covered_index};
+use ot_lookups::subtable_kind::SubtableKind;
 use rb_glyph::{Flags, GlyphPropsFlags, hb_glyph_info_t};
 
 /// The bits of a lookup's flag that pass over classes of glyphs.
@@ -46,22 +47,22 @@ impl LastBase {
     }
 }
 
-/// Where a subtable of this kind attaches its mark: to the last base before it, to a component of the last ligature, or to the mark
+/// Where a subtable attaches its mark: to the last base before it, to a component of the last ligature, or to the mark
 /// before it.
 pub(crate) fn attachment_at<P: ContourPoints>(
     glyphs: &[hb_glyph_info_t],
-    kind: u16,
     turn: &Turn,
     last: &mut LastBase,
     points: &P,
 ) -> AttachmentFound
-    ensures last { last.new ≡ bases_at kind (visit_of turn.now) glyphs.now last.old }
-    ensures is { HasNoPixels turn.now.instance.now → result ≡ attachment_at kind (visit_of turn.now) glyphs.now last.old }
+    ensures last { last.new ≡ bases_at turn.now.subtable.now.kind (visit_of turn.now) glyphs.now last.old }
+    ensures is { HasNoPixels turn.now.instance.now → result
+        ≡ attachment_at turn.now.subtable.now.kind (visit_of turn.now) glyphs.now last.old }
 {
-    match kind {
-        4 => base_of(glyphs, turn, last, points),
-        5 => ligature_of(glyphs, turn, last, points),
-        6 => mark_of(glyphs, turn, points),
+    match turn.subtable.kind {
+        SubtableKind::MarkToBase => base_of(glyphs, turn, last, points),
+        SubtableKind::MarkToLigature => ligature_of(glyphs, turn, last, points),
+        SubtableKind::MarkToMark => mark_of(glyphs, turn, points),
         _ => AttachmentFound::Nothing,
     }
 }

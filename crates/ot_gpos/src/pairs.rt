@@ -27,6 +27,7 @@ use ot_gpos_tables::pairs::{
 use ot_gpos_tables::values::{ValueRecord, advanced};
 use ot_layout::matcher::{Matcher, class_of};
 use ot_layout::skipping_iterator::{Found, SkippingIterator};
+use ot_lookups::subtable_kind::{PairFormat, SubtableKind};
 use rb_glyph::{GlyphPosition, hb_glyph_info_t};
 use shaping_buffer::hb_buffer_t;
 
@@ -164,15 +165,15 @@ fn advance_of(turn: &Turn, glyphs: (u32, u32)) -> Option<i16>
     ensures { option_map kerned result ≡ pairs.pair_records (visit_of turn.now) glyphs.0 glyphs.1 }
 {
     let (first, second) = glyphs;
-    match turn.subtable.format {
-        1 => {
+    match turn.subtable.kind {
+        SubtableKind::PairAdjustment(PairFormat::Glyphs) => {
             let set = pair_set(turn.subtable.table, turn.index)?;
             if second > 0xFFFF {
                 return None;
             }
             listed_advance(set, second as u16)
         }
-        2 => {
+        SubtableKind::PairAdjustment(PairFormat::Classes) => {
             let first = class_of(&turn.subtable.classes, first);
             classed_advance(
                 turn.subtable.table,
@@ -308,15 +309,15 @@ fn values_of(turn: &Turn, glyphs: (u32, u32)) -> Option<PairValues>
 {
     let (first, second) = glyphs;
     let table = turn.subtable.table;
-    match turn.subtable.format {
-        1 => {
+    match turn.subtable.kind {
+        SubtableKind::PairAdjustment(PairFormat::Glyphs) => {
             let set = pair_set(table, turn.index)?;
             if second > 0xFFFF {
                 return None;
             }
             listed_pair(set, pair_formats(table), second as u16)
         }
-        2 => {
+        SubtableKind::PairAdjustment(PairFormat::Classes) => {
             let first = class_of(&turn.subtable.classes, first);
             classed_pair(
                 table,
@@ -377,7 +378,7 @@ fn has_effect(turn: &Turn, pair: &AdjustedPair, is_horizontal: bool) -> bool
 fn base_of<'a>(turn: &Turn<'a>) -> &'a [u8]
     ensures { result.now ≡ pairs.pair_base (visit_of turn.now) }
 {
-    if turn.subtable.format == 2 {
+    if turn.subtable.kind == SubtableKind::PairAdjustment(PairFormat::Classes) {
         turn.subtable.table
     } else {
         pair_set(turn.subtable.table, turn.index).unwrap_or(&[])

@@ -13,6 +13,7 @@ use Rattle.font_tables.specs.declared.coverage.Coverage.{Coverage}
 use Rattle.ot_substitution.specs.FirstEdit.{IsFirstEdit}
 use Rattle.ot_substitution.specs.Substitution.{cursor_glyph}
 use Rattle.ot_lookups.specs.LookupProps.{glyph_at}
+use Rattle.ot_lookups.specs.SubtableKinds.{is_single}
 use Rattle.ot_lookups.specs.declared.lookup_list.Lookup.{Lookup}
 use Rattle.ot_layout.specs.declared.search.Reach.{Reach}
 use Rattle.ot_layout.specs.declared.search.ApplyContext.{ApplyContext}
@@ -45,23 +46,23 @@ first_of_two None p edit some is = absurd (false≢true (sym (ap is_some is) ∙
 first_of_two (Some x) p edit some is = is
 
 first_is : (coverages : List Coverage) (options : LookupOptions) (ctx : ApplyContext) (nested : Bool) (l : List Subtable)
-    (places : List ℕ) (edit : Option Edit) → All (λ (t : Subtable). t.lookup_type ≡ 1) l
+    (places : List ℕ) (edit : Option Edit) → All (λ (t : Subtable). is_single t.kind ≡ true) l
     → IsFirstEdit coverages options ctx nested l places edit → edit ≡ option_map Replace (first_single l (cursor_glyph ctx).glyph_id)
 first_is coverages options ctx nested [] places edit all is = is
 first_is coverages options ctx nested (t ∷ l) places edit all is =
     let glyph = (cursor_glyph ctx).glyph_id in
-    let kind = All-head (λ (x : Subtable). x.lookup_type ≡ 1) t l all in
+    let kind = All-head (λ (x : Subtable). is_single x.kind ≡ true) t l all in
     elim is [
       | inl w ↦ first_of_two (single_of t glyph) (first_single l glyph) edit w.0 (w.1.singles kind)
       | inr w ↦
           let none : single_of t glyph ≡ None = none_from (single_of t glyph) (w.0.singles kind) in
-          first_is coverages options ctx nested l places edit (All-tail (λ (x : Subtable). x.lookup_type ≡ 1) t l all) w.1
+          first_is coverages options ctx nested l places edit (All-tail (λ (x : Subtable). is_single x.kind ≡ true) t l all) w.1
           ∙ ap (λ o. option_map Replace (option_or o (first_single l glyph))) (sym none)
     ]
 
 -- the edit of a lookup of single substitutions
 edit_is : (substitutions : Substitutions) (lookup : Lookup) (nested : Bool) (s : State) (places : List ℕ) (edit : Option Edit)
-    → All (λ (t : Subtable). t.lookup_type ≡ 1) (subtables substitutions lookup)
+    → All (λ (t : Subtable). is_single t.kind ≡ true) (subtables substitutions lookup)
     → IsDecided substitutions lookup nested s places edit
     → edit ≡ option_map Replace (first_single (subtables substitutions lookup) (glyph_at s.input 0).glyph_id)
 edit_is substitutions lookup nested s places edit all d =
@@ -179,7 +180,7 @@ module _ (substitutions : Substitutions) (b : State) (o : List hb_glyph_info_t) 
   made (Ok step) (Some glyph) places n m = applied glyph places n step m
 
   pub turned : (lookup : Lookup) (nested : Bool) (result : Result Step AllocError)
-      → All (λ (t : Subtable). t.lookup_type ≡ 1) (subtables substitutions lookup)
+      → All (λ (t : Subtable). is_single t.kind ≡ true) (subtables substitutions lookup)
       → IsTurn applies substitutions lookup nested (at_left left) result new
       → Turned substitutions b o x xs i result new.buffer (first_single (subtables substitutions lookup) x.glyph_id)
   turned lookup nested result all t =

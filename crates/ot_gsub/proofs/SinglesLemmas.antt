@@ -11,6 +11,9 @@ use Rattle.std.specs.declared.alloc.AllocError.{AllocError}
 use Rattle.rb_glyph.specs.declared.flag_sets.TheConstants.BufferFlags.{PRODUCE_UNSAFE_TO_CONCAT}
 use Rattle.rb_glyph.specs.declared.info.hb_glyph_info_t.{hb_glyph_info_t}
 use Rattle.ot_lookups.specs.Lookup.{is_for}
+use Rattle.ot_lookups.specs.SubtableKinds.{is_single}
+use Rattle.ot_lookups.specs.declared.subtable_kind.SubtableKind.{SubtableKind}
+use Rattle.ot_lookups.specs.declared.subtable_kind.SubtableKind.TheVariants.{ReverseSubstitution}
 use Rattle.glyph_digests.specs.Digest.{may_have}
 use Rattle.glyph_digests.specs.FirstGlyphs.{may_have_first}
 use Rattle.ot_lookups.specs.LookupProps.{glyph_at, passes_over, share}
@@ -19,7 +22,7 @@ use Rattle.ot_lookups.specs.declared.subtable.Subtable.{Subtable}
 use Rattle.shaping_buffer.specs.State.{State, len}
 use Rattle.shaping_buffer.specs.ClusterStep.{asks}
 use Rattle.shaping_buffer.specs.Step.{Meets, Outcome, limited, sync}
-use Rattle.ot_gsub.specs.Singles.{GoesOn, HasMoved, IsForNext, IsLevel, IsSingle, IsSubstituted, first_single, give_way, moved, opened_at, starts_reverse, substituted}
+use Rattle.ot_gsub.specs.Singles.{GoesOn, HasMoved, IsForNext, IsLevel, IsSingle, IsSubstituted, first_single, give_way, is_reverse, moved, opened_at, starts_reverse, substituted}
 use Rattle.ot_gsub.specs.Nested.{Applies, Now, now_of}
 use Rattle.ot_gsub.specs.Turn.{IsTurn, IsTurnAt, subtables}
 use Rattle.ot_gsub.proofs.EditsLemmas.{state-limited}
@@ -71,9 +74,13 @@ glyph_at-drop m n l = get_or-drop m l n _
 pub len_closed : (s : State) → s.have_output ≡ false → len s ≡ length s.input
 len_closed s shut = cond-false _ _ _ shut
 
-pub not_reverse : (l : List Subtable) → All (λ (t : Subtable). t.lookup_type ≡ 1) l → starts_reverse l ≡ false
+single_not_reverse : (k : SubtableKind) → is_single k ≡ true → is_reverse k ≡ false
+single_not_reverse ReverseSubstitution single = cc
+single_not_reverse _ single = refl
+
+pub not_reverse : (l : List Subtable) → All (λ (t : Subtable). is_single t.kind ≡ true) l → starts_reverse l ≡ false
 not_reverse [] all = refl
-not_reverse (t ∷ l) all = ap (λ k. k == 8) (All-head (λ (x : Subtable). x.lookup_type ≡ 1) t l all)
+not_reverse (t ∷ l) all = single_not_reverse t.kind (All-head (λ (x : Subtable). is_single x.kind ≡ true) t l all)
 
 pub and_false : (a : Bool) → (a && false) ≡ false
 and_false true = refl

@@ -6,6 +6,9 @@ use Rattle.std.specs.declared.alloc.AllocError.{AllocError}
 use Rattle.rb_glyph.specs.declared.flag_sets.TheConstants.BufferFlags.{PRODUCE_UNSAFE_TO_CONCAT}
 use Rattle.rb_glyph.specs.declared.info.hb_glyph_info_t.{hb_glyph_info_t}
 use Rattle.ot_lookups.specs.Lookup.{is_for}
+use Rattle.ot_lookups.specs.SubtableKinds.{is_single}
+use Rattle.ot_lookups.specs.declared.subtable_kind.SubtableKind.{SubtableKind}
+use Rattle.ot_lookups.specs.declared.subtable_kind.SubtableKind.TheVariants.{ReverseSubstitution}
 use Rattle.ot_substitution.specs.Substitution.{single}
 use Rattle.glyph_digests.specs.Covered.{covered_index}
 use Rattle.ot_lookups.specs.LookupProps.{glyph_at}
@@ -24,7 +27,7 @@ use Rattle.ot_gsub.specs.declared.substitution.Substitutions.{Substitutions}
 -- the glyph that a subtable puts in the place of this one
 abbrev pub single_of : Subtable → ℕ → Option ℕ
 single_of subtable glyph =
-    option_and_then (single subtable.format subtable.table.now glyph) (covered_index subtable.coverage.table.now glyph)
+    option_and_then (single subtable.kind subtable.table.now glyph) (covered_index subtable.coverage.table.now glyph)
 
 -- that of the first subtable that has one
 abbrev pub first_single : List Subtable → ℕ → Option ℕ
@@ -46,7 +49,7 @@ substituted substitutions lookup g =
 
 -- the lookup has single substitutions alone, and nothing is marked: what was looked at is no more than the glyph
 pub record IsSingle (substitutions : Substitutions) (lookup : Lookup) (s : State) : Type 0 where
-  pub kinds : All (λ (subtable : Subtable). subtable.lookup_type ≡ 1) (subtables substitutions lookup)
+  pub kinds : All (λ (subtable : Subtable). is_single subtable.kind ≡ true) (subtables substitutions lookup)
   pub unmarked : asks PRODUCE_UNSAFE_TO_CONCAT s ≡ false
 
 -- the same of a lookup that may be none
@@ -95,10 +98,14 @@ abbrev pub IsForNext : Substitutions → Lookup → State → Type 0
 IsForNext substitutions lookup s =
     0 < length s.input → is_for lookup substitutions.options.mask (glyph_at s.input 0) ≡ true
 
+abbrev pub is_reverse : SubtableKind → Bool
+is_reverse ReverseSubstitution = true
+is_reverse _ = false
+
 -- the first of the subtables of a lookup that is applied from the end has reverse substitutions
 abbrev pub starts_reverse : List Subtable → Bool
 starts_reverse [] = false
-starts_reverse (subtable ∷ rest) = subtable.lookup_type == 8
+starts_reverse (subtable ∷ rest) = is_reverse subtable.kind
 
 -- so many glyphs were passed over that a lookup is not for, and it is for the one after them
 pub record GoesOn (lookup : Lookup) (mask start : ℕ) (old : State) (done : Bool) (new : State) : Type 0 where

@@ -20,12 +20,9 @@ use font_tables::gdef::Gdef;
 use ot_contexts::context::MAX_NESTING_LEVEL;
 use ot_layout::budget::PASSED_A_STEP;
 use ot_layout::{Budget, LookupOptions, Search};
-use ot_lookups::{Lookup, LookupList};
+use ot_lookups::{Lookup, LookupList, SubtableKind};
 use shaping_buffer::hb_buffer_t;
 use std::alloc::AllocError;
-
-/// The kind of reverse substitutions.
-const REVERSE: u16 = 8;
 
 /// The lookups, and how one of them is applied.
 #[derive(Clone, Copy)]
@@ -134,7 +131,7 @@ fn is_reverse(list: &LookupList, lookup: &Lookup) -> bool
     ensures { result ≡ starts_reverse (subtables_of list.now.subtables.items lookup.now) }
 {
     match list.subtables_of(lookup).first() {
-        Some(subtable) => subtable.lookup_type == REVERSE,
+        Some(subtable) => subtable.kind == SubtableKind::ReverseSubstitution,
         None => false,
     }
 }

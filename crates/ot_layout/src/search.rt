@@ -1,15 +1,41 @@
 //! What a search for a match is given, and what it leaves behind.
 
 ghost use Rattle.std.specs.Prelude.{◌≡◌, ◌≤◌, min, max};
-ghost use Rattle.ot_layout.specs.ApplyContext.{context_iterator, input_iterator};
+ghost use Rattle.ot_layout.specs.ApplyContext.{IsMadeFor, context_iterator, input_iterator};
 
 use crate::budget::Budget;
-use crate::skipping_iterator::SkippingIterator;
+use crate::skipping_iterator::{LookupOptions, SkippingIterator};
 use arrayvec::ArrayVec;
+use ot_lookups::Lookup;
 use rb_glyph::hb_glyph_info_t;
 
 /// The places of the glyphs of a match, counted from the cursor: the first is 0.
 pub type MatchPositions = ArrayVec<usize, 64>;
+
+/// A lookup that is applied, and the iterators over the glyphs that it does not pass over, which are made once for it.
+#[derive(Clone, Copy)]
+pub struct LookupContext<'a> {
+    /// The lookup.
+    pub lookup: &'a Lookup<'a>,
+    /// The iterator over the glyphs of a match.
+    pub iterator: SkippingIterator<'a>,
+    /// The iterator over the glyphs before and after a match.
+    pub context: SkippingIterator<'a>,
+}
+
+impl<'a> LookupContext<'a> {
+    /// A lookup that is applied by these options.
+    pub fn new(lookup: &'a Lookup<'a>, options: &LookupOptions, is_positioning: bool) -> Self
+        ensures lookup { result.lookup.now ≡ lookup.now }
+        ensures made { IsMadeFor options.now is_positioning result }
+    {
+        LookupContext {
+            lookup,
+            iterator: SkippingIterator::over_input(lookup.lookup_props, options, is_positioning),
+            context: SkippingIterator::over_context(lookup.lookup_props, options, is_positioning),
+        }
+    }
+}
 
 /// The glyphs on both sides of the cursor.
 #[derive(Clone, Copy)]

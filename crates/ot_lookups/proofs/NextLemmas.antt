@@ -5,9 +5,8 @@ use Rattle.std.proofs.lemmas.Option.{slice_get_read}
 use Rattle.std.proofs.lemmas.List.Elements.{All-push, All-weaker}
 use Rattle.font_tables.specs.declared.coverage.Coverage.{Coverage}
 use Rattle.std.specs.Prelude.{IfSome, is_some}
-use Rattle.ot_lookups.specs.Forms.{is_chained_form, is_chained_type, is_covered_form}
+use Rattle.ot_lookups.specs.SubtableKinds.{is_chained}
 use Rattle.ot_lookups.specs.NextAsked.{IsNextAt, IsNextOf, lookahead_number, backtrack_number, input_number}
-use Rattle.ot_lookups.specs.declared.subtable.SubtableFormat.{SubtableFormat}
 use Rattle.ot_lookups.specs.declared.subtable.NextAsked.{NextAsked}
 use Rattle.ot_lookups.specs.declared.subtable.Subtable.{Subtable}
 
@@ -31,7 +30,7 @@ pub nexts_more : (cs : List Coverage) (c : Coverage) (ts : List Subtable) → Al
     → All (IsNextOf (cs ++ (c ∷ []))) ts
 nexts_more cs c ts are =
     All-weaker (IsNextOf cs) (IsNextOf (cs ++ (c ∷ [])))
-    (λ t is next has. next_at_more cs c t.first_coverage (is_chained_type t.lookup_type) t.table.now next (is next has)) ts are
+    (λ t is next has. next_at_more cs c t.first_coverage (is_chained t.kind) t.table.now next (is next has)) ts are
 
 two_or_more : (i : ℕ) (x : Bool) → x ≡ nat_lt 1 i → x ≡ true → 1 < i
 two_or_more i x is so = grind (arith, common_steps)
@@ -44,17 +43,17 @@ pub next_at : (cs : List Coverage) (first : ℕ) (chained : Bool) (table : List 
     → b ≡ backtrack_number chained table → i ≡ input_number chained table → a ≡ lookahead_number chained table
     → (i < 2 → 0 < a) → slice_get cs at ≡ Some next.coverage → at ≡ first + (b + min i 1) → next.is_input ≡ nat_lt 1 i
     → IsNextAt cs first chained table next
-next_at cs first chained table next b i a at backtrack input lookahead some is place lookup_type = record {
-  two = λ two. subst (λ n. 1 < n) input (two_or_more i next.is_input lookup_type two);
+next_at cs first chained table next b i a at backtrack input lookahead some is place is_input = record {
+  two = λ two. subst (λ n. 1 < n) input (two_or_more i next.is_input is_input two);
   second = λ two.
-      let more = two_or_more i next.is_input lookup_type two in
+      let more = two_or_more i next.is_input is_input two in
       let here : at ≡ first + (b + 1) = omega (arith, place, more) in
       subst (λ n. slice_get cs (first + (n + 1)) ≡ Some next.coverage) backtrack
       (subst (λ n. slice_get cs n ≡ Some next.coverage) here is);
-  few = λ one. subst (λ n. n < 2) input (one_at_most i next.is_input lookup_type one);
-  some = λ one. subst (λ n. 0 < n) lookahead (some (one_at_most i next.is_input lookup_type one));
+  few = λ one. subst (λ n. n < 2) input (one_at_most i next.is_input is_input one);
+  some = λ one. subst (λ n. 0 < n) lookahead (some (one_at_most i next.is_input is_input one));
   lookahead = λ one.
-      let less = one_at_most i next.is_input lookup_type one in
+      let less = one_at_most i next.is_input is_input one in
       let here : at ≡ first + (b + i) = omega (arith, place, less) in
       subst (λ n. slice_get cs (first + (n + input_number chained table)) ≡ Some next.coverage) backtrack
       (subst (λ n. slice_get cs (first + (b + n)) ≡ Some next.coverage) input
@@ -85,14 +84,10 @@ pub next_at_place : (at first b i m x y n : ℕ) → at ≡ min (first + (x + y)
 next_at_place at first b i m x y n is less short same that least = omega (arith, is, less, short, same, that, least)
 
 -- what a new subtable asks for
-pub next_of_asked : (cs after : List Coverage) (first : ℕ) (chained : Bool) (table : List ℕ) (form : SubtableFormat) (asked : Option NextAsked)
-    → after ≡ cs → (is_some asked ≡ true → is_covered_form form ≡ true)
-    → (is_covered_form form ≡ true → chained ≡ is_chained_form form)
-    → IfSome asked (IsNextAt cs first (is_chained_form form) table)
+pub next_of_asked : (cs after : List Coverage) (first : ℕ) (chained : Bool) (table : List ℕ) (asked : Option NextAsked)
+    → after ≡ cs → IfSome asked (IsNextAt cs first chained table)
     → (next : NextAsked) → asked ≡ Some next → IsNextAt after first chained table next
-next_of_asked cs after first chained table form None same covered lookup_type is next has = cc
-next_of_asked cs after first chained table form (Some n) same covered lookup_type is next has =
+next_of_asked cs after first chained table None same is next has = cc
+next_of_asked cs after first chained table (Some n) same is next has =
     let e : n ≡ next = cc in
-    subst (λ x. IsNextAt x first chained table next) (sym same)
-    (subst (λ b. IsNextAt cs first b table next) (sym (lookup_type (covered refl)))
-    (subst (λ x. IsNextAt cs first (is_chained_form form) table x) e is))
+    subst (λ l. IsNextAt l first chained table next) (sym same) (subst (λ x. IsNextAt cs first chained table x) e is)

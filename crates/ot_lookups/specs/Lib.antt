@@ -1,10 +1,9 @@
-pub mod Formats
-pub mod Forms
 pub mod Lookup
 pub mod LookupProps
 pub mod LookupTables
 pub mod NextAsked
 pub mod Seconds
 pub mod Sets
+pub mod SubtableKinds
 pub mod SubtableLimit
 pub mod Subtables

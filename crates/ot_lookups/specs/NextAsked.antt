@@ -2,7 +2,7 @@
 use Rattle.std.specs.Prelude.{ℕ, ◌≡◌, ◌+◌, ◌*◌, ◌<◌, Bool, true, false, List, Some, slice_get, unwrap_or, if◌then◌else◌}
 use Rattle.font_tables.specs.Bytes.{number_16}
 use Rattle.font_tables.specs.declared.coverage.Coverage.{Coverage}
-use Rattle.ot_lookups.specs.Forms.{is_chained_type}
+use Rattle.ot_lookups.specs.SubtableKinds.{is_chained}
 use Rattle.ot_lookups.specs.declared.subtable.NextAsked.{NextAsked}
 use Rattle.ot_lookups.specs.declared.subtable.Subtable.{Subtable}
 
@@ -36,4 +36,4 @@ pub record IsNextAt (coverages : List Coverage) (first : ℕ) (is_chained : Bool
 abbrev pub IsNextOf : List Coverage → Subtable → Type 0
 IsNextOf coverages subtable =
     (next : NextAsked) → subtable.next ≡ Some next
-    → IsNextAt coverages subtable.first_coverage (is_chained_type subtable.lookup_type) subtable.table.now next
+    → IsNextAt coverages subtable.first_coverage (is_chained subtable.kind) subtable.table.now next

@@ -4,10 +4,11 @@ ghost use Rattle.std.specs.Prelude.{◌≡◌, ◌<◌, true, All, IfSome, IsTru
 ghost use Rattle.font_tables.specs.Bytes.{number_16};
 ghost use Rattle.glyph_digests.specs.Digest.{HasMore};
 ghost use Rattle.glyph_digests.specs.FirstGlyphs.{HasMoreFirst};
-ghost use Rattle.ot_lookups.specs.Forms.{is_chained_form, is_covered_form};
+ghost use Rattle.ot_lookups.specs.SubtableKinds.{is_chained};
 ghost use Rattle.ot_lookups.specs.NextAsked.{lookahead_number, backtrack_number, input_number};
 
-use crate::subtable::{Subtable, SubtableFormat};
+use crate::subtable::Subtable;
+use crate::subtable_kind::{ContextFormat, SubtableKind};
 use font_tables::bytes::u16_at;
 use font_tables::class_definition::ClassDefinition;
 use glyph_digests::digest::Digest;
@@ -25,15 +26,14 @@ pub(crate) fn quick_classes(table: &[u8]) -> ClassDefinition<'_> {
 }
 
 /// How many coverages a context by coverages has before the cursor, for its input and after it.
-pub(crate) fn coverage_numbers(form: SubtableFormat, table: &[u8]) -> Option<(u16, u16, u16)>
-    ensures covered { is_some result ≡ true → is_covered_form form ≡ true }
-    ensures backtrack { IfSome result (λ numbers. numbers.0 ≡ backtrack_number (is_chained_form form) table.now) }
-    ensures input { IfSome result (λ numbers. numbers.1 ≡ input_number (is_chained_form form) table.now) }
-    ensures lookahead { IfSome result (λ numbers. numbers.2 ≡ lookahead_number (is_chained_form form) table.now) }
+pub(crate) fn coverage_numbers(kind: SubtableKind, table: &[u8]) -> Option<(u16, u16, u16)>
+    ensures backtrack { IfSome result (λ numbers. numbers.0 ≡ backtrack_number (is_chained kind) table.now) }
+    ensures input { IfSome result (λ numbers. numbers.1 ≡ input_number (is_chained kind) table.now) }
+    ensures lookahead { IfSome result (λ numbers. numbers.2 ≡ lookahead_number (is_chained kind) table.now) }
 {
-    match form {
-        SubtableFormat::Coverages => Some((0, u16_at(table, 2)?, 0)),
-        SubtableFormat::ChainedCoverages => {
+    match kind {
+        SubtableKind::Context(ContextFormat::Coverages) => Some((0, u16_at(table, 2)?, 0)),
+        SubtableKind::ChainedContext(ContextFormat::Coverages) => {
             let backtrack = u16_at(table, 2)?;
             let input_at = 4 + 2 * usize::from(backtrack);
             let input = u16_at(table, input_at)?;

@@ -23,7 +23,6 @@ uncovered cs o s n t none = record {
   alternates = λ is chosen. rw none refl;
   ligatures = λ is. rw none refl;
   contexts = λ is. rw none refl;
-  chained_contexts = λ is. rw none refl;
   reverse_chained = λ is outermost. rw none refl;
   others = λ is. refl;
 }
@@ -59,7 +58,6 @@ no_edit cs o s n t places None has none = record {
   alternates = has.alternates;
   ligatures = has.ligatures;
   contexts = has.contexts;
-  chained_contexts = has.chained_contexts;
   reverse_chained = has.reverse_chained;
   others = has.others;
 }

@@ -1,11 +1,14 @@
 -- What a lookup of `GSUB` does at the cursor: the edit of the first of its subtables that has one.
-use Rattle.std.specs.Prelude.{◌≡◌, ◌⊎◌, ◌<◌, ◌≤◌, ◌+◌, ◌/◌, ◌==◌, ◌&&◌, ◌||◌, ℕ, Bool, true, false, not, List, [], ◌∷◌, drop, Option, None, Some, IsTrue, is_some, nat_lt, option_and_then}
+use Rattle.std.specs.Prelude.{◌≡◌, ◌⊎◌, ◌<◌, ◌≤◌, ◌+◌, ◌/◌, ℕ, Bool, true, false, not, List, [], ◌∷◌, drop, Option, None, Some, IsTrue, is_some, option_and_then}
 use Rattle.font_tables.specs.declared.coverage.Coverage.{Coverage}
 use Rattle.ot_contexts.specs.Context.{context_rule}
 use Rattle.ot_contexts.specs.Match.{first_ligature}
 use Rattle.ot_contexts.specs.Pattern.{IsFitBy, Pattern}
 use Rattle.ot_substitution.specs.Reverse.{reverse}
 use Rattle.ot_lookups.specs.Sets.{set_at}
+use Rattle.ot_lookups.specs.SubtableKinds.{as_context, is_single}
+use Rattle.ot_lookups.specs.declared.subtable_kind.SubtableKind.{SubtableKind}
+use Rattle.ot_lookups.specs.declared.subtable_kind.SubtableKind.TheVariants.{AlternateSubstitution, ChainedContext, Context, LigatureSubstitution, MultipleSubstitution, ReverseSubstitution, SingleSubstitution}
 use Rattle.ot_substitution.specs.Substitution.{IsMultiple, alternate_of, cursor_glyph, feature_value, replaced_by, single}
 use Rattle.glyph_digests.specs.Covered.{covered_index}
 use Rattle.ot_layout.specs.declared.budget.Budget.{Budget}
@@ -22,7 +25,7 @@ cursor_index subtable ctx = covered_index subtable.coverage.table.now (cursor_gl
 -- a single substitution of the glyph at the cursor
 abbrev pub single_edit : Subtable → ApplyContext → Option Edit
 single_edit subtable ctx =
-    replaced_by (single subtable.format subtable.table.now (cursor_glyph ctx).glyph_id) (cursor_index subtable ctx)
+    replaced_by (single subtable.kind subtable.table.now (cursor_glyph ctx).glyph_id) (cursor_index subtable ctx)
 
 -- the alternate of the glyph at the cursor that the value of the feature chooses
 abbrev pub alternate_edit : LookupOptions → Subtable → ApplyContext → Option Edit
@@ -46,15 +49,21 @@ ligated places (Some (Multiply glyphs)) = None
 ligated places (Some (Apply fit)) = None
 ligated places (Some (ReplaceInPlace change)) = None
 
--- whether a subtable of this kind can do anything: kinds from 1 to 6 can, and kind 8, a reverse substitution, where no other lookup
--- applies it
-abbrev pub is_of_use : ℕ → Bool → Bool
-is_of_use lookup_type is_nested = (nat_lt 0 lookup_type && nat_lt lookup_type 7) || ((lookup_type == 8) && not is_nested)
+-- whether a subtable of this kind can do anything: those of `GSUB` can, but a reverse substitution only where no other lookup applies it
+abbrev pub is_of_use : SubtableKind → Bool → Bool
+is_of_use (SingleSubstitution format) is_nested = true
+is_of_use MultipleSubstitution is_nested = true
+is_of_use AlternateSubstitution is_nested = true
+is_of_use LigatureSubstitution is_nested = true
+is_of_use (Context format) is_nested = true
+is_of_use (ChainedContext format) is_nested = true
+is_of_use ReverseSubstitution is_nested = not is_nested
+is_of_use _ is_nested = false
 
 -- the rule of a context that is taken at the cursor
-abbrev pub context_edit : List Coverage → Subtable → Bool → ApplyContext → Option Pattern
-context_edit coverages subtable is_chained ctx =
-    option_and_then (λ index. context_rule coverages subtable index is_chained ctx) (cursor_index subtable ctx)
+abbrev pub context_edit : List Coverage → Subtable → ApplyContext → Option Pattern
+context_edit coverages subtable ctx =
+    option_and_then (λ index. context_rule coverages subtable index ctx) (cursor_index subtable ctx)
 
 -- the reverse chaining substitution of the glyph at the cursor: its coverages stand one after the other in a list, from a place on
 abbrev pub reverse_edit : List Coverage → Subtable → ApplyContext → Option Edit
@@ -75,14 +84,13 @@ IsRuleEdit ctx rule places (Some (ReplaceInPlace change)) = IsTrue false
 -- a context, or a reverse chaining substitution where no other lookup applies it; the glyphs of the match of a ligature or a rule stand
 -- at these places
 pub record IsEditOf (coverages : List Coverage) (options : LookupOptions) (ctx : ApplyContext) (is_nested : Bool) (subtable : Subtable) (places : List ℕ) (edit : Option Edit) : Type 0 where
-  pub singles : subtable.lookup_type ≡ 1 → edit ≡ single_edit subtable ctx
-  pub multiples : subtable.lookup_type ≡ 2 → IsMultiple subtable.table.now (cursor_index subtable ctx) edit
-  pub alternates : subtable.lookup_type ≡ 3 → options.random ≡ false → edit ≡ alternate_edit options subtable ctx
-  pub ligatures : subtable.lookup_type ≡ 4 → ligated places edit ≡ ligature_edit subtable ctx
-  pub contexts : subtable.lookup_type ≡ 5 → IsRuleEdit ctx (context_edit coverages subtable false ctx) places edit
-  pub chained_contexts : subtable.lookup_type ≡ 6 → IsRuleEdit ctx (context_edit coverages subtable true ctx) places edit
-  pub reverse_chained : subtable.lookup_type ≡ 8 → is_nested ≡ false → edit ≡ reverse_edit coverages subtable ctx
-  pub others : is_of_use subtable.lookup_type is_nested ≡ false → edit ≡ None
+  pub singles : is_single subtable.kind ≡ true → edit ≡ single_edit subtable ctx
+  pub multiples : subtable.kind ≡ MultipleSubstitution → IsMultiple subtable.table.now (cursor_index subtable ctx) edit
+  pub alternates : subtable.kind ≡ AlternateSubstitution → options.random ≡ false → edit ≡ alternate_edit options subtable ctx
+  pub ligatures : subtable.kind ≡ LigatureSubstitution → ligated places edit ≡ ligature_edit subtable ctx
+  pub contexts : is_some (as_context subtable.kind) ≡ true → IsRuleEdit ctx (context_edit coverages subtable ctx) places edit
+  pub reverse_chained : subtable.kind ≡ ReverseSubstitution → is_nested ≡ false → edit ≡ reverse_edit coverages subtable ctx
+  pub others : is_of_use subtable.kind is_nested ≡ false → edit ≡ None
 
 -- the edit of the first of these subtables that has one, or none
 abbrev pub IsFirstEdit : List Coverage → LookupOptions → ApplyContext → Bool → List Subtable → List ℕ → Option Edit → Type 0

@@ -8,6 +8,9 @@ use Rattle.ot_lookups.specs.LookupProps.{glyph_at}
 use Rattle.glyph_digests.specs.Covered.{covered_index}
 use Rattle.ot_substitution.specs.GlyphTable.{listed, listed_glyph}
 use Rattle.ot_lookups.specs.Sets.{set_at}
+use Rattle.ot_lookups.specs.declared.subtable_kind.SubtableKind.{SubtableKind}
+use Rattle.ot_lookups.specs.declared.subtable_kind.SubtableKind.TheVariants.{SingleSubstitution}
+use Rattle.ot_lookups.specs.declared.subtable_kind.SingleFormat.TheVariants as format
 use Rattle.ot_contexts.specs.Rule.{AreMatchPositions, matcher_by}
 use Rattle.ot_contexts.specs.declared.rule.MatchFunction.TheVariants as rule
 use Rattle.ot_layout.specs.declared.search.ApplyContext.{ApplyContext}
@@ -17,12 +20,12 @@ use Rattle.ot_substitution.specs.declared.substitution.Edit.TheVariants.{Replace
 use Rattle.ot_layout.specs.ApplyContext.{input_iterator}
 
 -- the single substitution of a glyph with this coverage index: format 1 adds a number, format 2 lists the glyphs
-unfoldable pub single : ℕ → List ℕ → ℕ → ℕ → Option ℕ
-single format table glyph index =
-    if format == 1 then option_map (λ delta. (glyph % 65536 + delta) % 65536) (number_16 table 4)
-    else if format == 2
-    then if nat_lt index (unwrap_or (number_16 table 4) 0) then number_16 table (6 + 2 * index) else None
-    else None
+unfoldable pub single : SubtableKind → List ℕ → ℕ → ℕ → Option ℕ
+single (SingleSubstitution format.Delta) table glyph index =
+    option_map (λ delta. (glyph % 65536 + delta) % 65536) (number_16 table 4)
+single (SingleSubstitution format.Glyphs) table glyph index =
+    if nat_lt index (unwrap_or (number_16 table 4) 0) then number_16 table (6 + 2 * index) else None
+single _ table glyph index = None
 
 -- the edit puts the glyphs of a sequence in the place of one: a single one replaces it
 abbrev pub IsSequence : List ℕ → Edit → Type 0

@@ -11,6 +11,8 @@ ghost use Rattle.ot_contexts.specs.Pattern.{covered_by};
 ghost use Rattle.ot_substitution.specs.Reverse.{reverse, substitute};
 ghost use Rattle.ot_contexts.specs.Rule.{sequence_matcher};
 ghost use Rattle.ot_lookups.specs.Sets.{set_at};
+ghost use Rattle.ot_lookups.specs.SubtableKinds.{is_single};
+ghost use Rattle.ot_lookups.specs.declared.subtable_kind.SubtableKind.TheVariants.{AlternateSubstitution, LigatureSubstitution, MultipleSubstitution, SingleSubstitution};
 ghost use Rattle.ot_substitution.specs.Substitution.{IsSequence, alternate_of, feature_value, single};
 ghost use Rattle.ot_substitution.specs.Substitution.{IsMultiple, IsLigature};
 ghost use Rattle.ot_lookups.specs.Subtables.{subtables_of};
@@ -31,6 +33,7 @@ use ot_lookups::lookup_list::{Lookup, LookupList};
 use ot_lookups::lookup_props::covered_index;
 use ot_lookups::sets::set_at;
 use ot_lookups::subtable::Subtable;
+use ot_lookups::subtable_kind::{SingleFormat, SubtableKind};
 
 /// The value of a feature that stands for any of its alternates, where it is `rand` (HarfBuzz, `HB_OT_MAP_MAX_VALUE`).
 const ANY_ALTERNATE: u32 = 255;
@@ -123,46 +126,53 @@ fn edit_of<'a>(
     requires some { 0 < length ctx.now.input.now }
     requires next { IsNextOf list.now.coverages.items subtable.now }
     ensures spent { IsNotMore search.old.budget search.new.budget }
-    ensures single { subtable.now.lookup_type ≡ 1 → result ≡ single_edit subtable.now ctx.now }
-    ensures multiple { subtable.now.lookup_type ≡ 2
+    ensures single { is_single subtable.now.kind ≡ true → result ≡ single_edit subtable.now ctx.now }
+    ensures multiple { subtable.now.kind ≡ MultipleSubstitution
         → IsMultiple subtable.now.table.now (cursor_index subtable.now ctx.now) result }
-    ensures alternate { subtable.now.lookup_type ≡ 3 → options.now.random ≡ false
+    ensures alternate { subtable.now.kind ≡ AlternateSubstitution → options.now.random ≡ false
         → result ≡ alternate_edit options.now subtable.now ctx.now }
-    ensures ligature { subtable.now.lookup_type ≡ 4 → 0 < search.new.budget.steps
+    ensures ligature { subtable.now.kind ≡ LigatureSubstitution → 0 < search.new.budget.steps
         → ligated search.new.places.items result ≡ ligature_edit subtable.now ctx.now }
-    ensures other { is_of_use subtable.now.lookup_type is_nested ≡ false → result ≡ None }
+    ensures other { is_of_use subtable.now.kind is_nested ≡ false → result ≡ None }
     ensures is { 0 < search.new.budget.steps
         → IsEditOf list.now.coverages.items options.now ctx.now is_nested subtable.now search.new.places.items result }
 {
     let glyph = &ctx.input[0];
     let index = covered_index(&subtable.coverage, glyph.glyph_id)?;
-    match subtable.lookup_type {
-        1 => Some(Edit::Replace(single(subtable, glyph.glyph_id, index)?)),
-        2 => Some(multiple(subtable.table, index)),
-        3 => alternate(subtable.table, index, glyph.mask, options),
-        4 => ligature_by(subtable, index, ctx, search),
-        5 => Some(Edit::Apply(fitting_rule(list, subtable, index, false, ctx, search)?)),
-        6 => Some(Edit::Apply(fitting_rule(list, subtable, index, true, ctx, search)?)),
-        8 if !is_nested => reverse(list, subtable, index, ctx, search),
+    match subtable.kind {
+        SubtableKind::SingleSubstitution(format) => {
+            Some(Edit::Replace(single(format, subtable.table, glyph.glyph_id, index)?))
+        }
+        SubtableKind::MultipleSubstitution => Some(multiple(subtable.table, index)),
+        SubtableKind::AlternateSubstitution => {
+            alternate(subtable.table, index, glyph.mask, options)
+        }
+        SubtableKind::LigatureSubstitution => ligature_by(subtable, index, ctx, search),
+        SubtableKind::Context(_) | SubtableKind::ChainedContext(_) => {
+            Some(Edit::Apply(fitting_rule(list, subtable, index, ctx, search)?))
+        }
+        SubtableKind::ReverseSubstitution if !is_nested => {
+            reverse(list, subtable, index, ctx, search)
+        }
         _ => None,
     }
 }
 
 /// The single substitution of a glyph with this coverage index.
 #[tactic(auto, unfolding(crate::specs::Substitution::single))]
-fn single(subtable: &Subtable, glyph: u32, index: u32) -> Option<u16>
-    ensures { result ≡ single subtable.now.format subtable.now.table.now glyph index }
+fn single(format: SingleFormat, table: &[u8], glyph: u32, index: u32) -> Option<u16>
+    ensures { result ≡ single (SingleSubstitution format) table.now glyph index }
 {
-    match subtable.format {
-        1 => {
-            let delta = u16_at(subtable.table, 4)?;
+    match format {
+        SingleFormat::Delta => {
+            let delta = u16_at(table, 4)?;
             let low = (glyph % 65536) as u16;
             Some(low.wrapping_add(delta))
         }
-        2 if index < u32::from(u16_at(subtable.table, 4)?) => {
-            u16_at(subtable.table, 6 + 2 * index as usize)
+        SingleFormat::Glyphs if index < u32::from(u16_at(table, 4)?) => {
+            u16_at(table, 6 + 2 * index as usize)
         }
-        _ => None,
+        SingleFormat::Glyphs => None,
     }
 }
 

@@ -46,7 +46,7 @@ fn rule_at(list: &LookupList, ids: &[u32]) -> Option<u16> {
         return None;
     }
     let mut search = Search::new(Budget::new(1000, 5));
-    let fit = fitting_rule(list, subtable, 0, true, &ctx, &mut search)?;
+    let fit = fitting_rule(list, subtable, 0, &ctx, &mut search)?;
     Some(fit.record(0)?.lookup)
 }
 

@@ -5,9 +5,9 @@ use crate::fonts::lookups::{JOINER, OPTIONS, fill, list_of};
 use vukhaso::internals::glyph::hb_glyph_info_t;
 use vukhaso::internals::glyph_digests::Digest;
 use vukhaso::internals::ot_layout::{ApplyContext, Budget, Search, SkippingIterator};
-use vukhaso::internals::ot_lookups::LookupList;
-use vukhaso::internals::ot_lookups::subtable::{
-    SubtableFormat, positioning_form, substitution_form,
+use vukhaso::internals::ot_lookups::subtable_kind::{positioning_kind, substitution_kind};
+use vukhaso::internals::ot_lookups::{
+    ContextFormat, LookupList, PairFormat, SingleFormat, SubtableKind,
 };
 use vukhaso::internals::ot_substitution::substitution::{Edit, edit_at};
 use vukhaso::internals::ot_substitution::would_substitute;
@@ -221,33 +221,64 @@ fn lookups_are_for_glyphs() -> Result<(), AllocError> {
     Ok(())
 }
 
-/// Kinds and formats, and what their subtables hold.
-static SUBSTITUTIONS: [(u16, u16, SubtableFormat); 7] = [
-    (1, 2, SubtableFormat::Plain),
-    (5, 1, SubtableFormat::Glyphs),
-    (5, 2, SubtableFormat::Classes),
-    (6, 2, SubtableFormat::ChainedClasses),
-    (5, 3, SubtableFormat::Coverages),
-    (6, 3, SubtableFormat::ChainedCoverages),
-    (8, 1, SubtableFormat::Reverse),
+/// Types of lookups and formats, and the kinds of their subtables.
+static SUBSTITUTIONS: [(u16, u16, Option<SubtableKind>); 10] = [
+    (
+        1,
+        2,
+        Some(SubtableKind::SingleSubstitution(SingleFormat::Glyphs)),
+    ),
+    (4, 1, Some(SubtableKind::LigatureSubstitution)),
+    (5, 1, Some(SubtableKind::Context(ContextFormat::Glyphs))),
+    (5, 2, Some(SubtableKind::Context(ContextFormat::Classes))),
+    (
+        6,
+        2,
+        Some(SubtableKind::ChainedContext(ContextFormat::Classes)),
+    ),
+    (5, 3, Some(SubtableKind::Context(ContextFormat::Coverages))),
+    (
+        6,
+        3,
+        Some(SubtableKind::ChainedContext(ContextFormat::Coverages)),
+    ),
+    (8, 1, Some(SubtableKind::ReverseSubstitution)),
+    (4, 2, None),
+    (7, 1, None),
 ];
 
-/// The same of `GPOS`, where contexts have other kinds.
-static POSITIONS: [(u16, u16, SubtableFormat); 6] = [
-    (2, 1, SubtableFormat::Plain),
-    (2, 2, SubtableFormat::PairClasses),
-    (5, 1, SubtableFormat::Marks),
-    (7, 2, SubtableFormat::Classes),
-    (8, 2, SubtableFormat::ChainedClasses),
-    (8, 3, SubtableFormat::ChainedCoverages),
+/// The same of `GPOS`, where contexts have other types.
+static POSITIONS: [(u16, u16, Option<SubtableKind>); 8] = [
+    (2, 1, Some(SubtableKind::PairAdjustment(PairFormat::Glyphs))),
+    (
+        2,
+        2,
+        Some(SubtableKind::PairAdjustment(PairFormat::Classes)),
+    ),
+    (5, 1, Some(SubtableKind::MarkToLigature)),
+    (7, 2, Some(SubtableKind::Context(ContextFormat::Classes))),
+    (
+        8,
+        2,
+        Some(SubtableKind::ChainedContext(ContextFormat::Classes)),
+    ),
+    (
+        8,
+        3,
+        Some(SubtableKind::ChainedContext(ContextFormat::Coverages)),
+    ),
+    (8, 4, None),
+    (9, 1, None),
 ];
 
 #[test]
-fn subtables_have_forms() {
-    for (kind, format, form) in &SUBSTITUTIONS {
-        assert_eq!(substitution_form(*kind, *format), *form, "{kind} {format}");
+fn subtables_have_kinds() {
+    for (lookup_type, format, kind) in &SUBSTITUTIONS {
+        let found = substitution_kind(*lookup_type, *format);
+        assert_eq!(found, *kind, "{lookup_type} {format}");
     }
-    for (kind, format, form) in &POSITIONS {
-        assert_eq!(positioning_form(*kind, *format), *form, "{kind} {format}");
+    for (lookup_type, format, kind) in &POSITIONS {
+        let found = positioning_kind(*lookup_type, *format);
+        assert_eq!(found, *kind, "{lookup_type} {format}");
     }
 }
