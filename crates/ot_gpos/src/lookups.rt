@@ -2,6 +2,7 @@
 //! `apply_forward`).
 
 ghost use Rattle.std.specs.Prelude.{ℕ, ◌≡◌, ◌≤◌, ◌<◌, ◌-◌, true, false, length, min, slice_get, None, Some, IsSome, IfNone, IfSome};
+ghost use Rattle.ot_layout.specs.ApplyContext.{IsMadeFor};
 ghost use Rattle.ot_layout.specs.Budget.{IsNotMore};
 ghost use Rattle.glyph_digests.specs.Covered.{covered_index};
 ghost use Rattle.ot_gpos.specs.Attachments.{HasNoPixels};
@@ -29,8 +30,8 @@ use ot_attachments::flags::{mark_break, mark_concat};
 use ot_contexts::context::Fit;
 use ot_gpos_tables::contour_points::ContourPoints;
 use ot_layout::budget::{PASSED_A_STEP, SUBTABLE_STEPS};
-use ot_layout::search::{MatchPositions, Search};
-use ot_layout::skipping_iterator::{LookupOptions, SkippingIterator};
+use ot_layout::search::{LookupContext, MatchPositions, Search};
+use ot_layout::skipping_iterator::LookupOptions;
 use ot_lookups::lookup_list::Lookup;
 use ot_lookups::lookup_props::covered_index;
 use ot_lookups::subtable::Subtable;
@@ -44,17 +45,18 @@ const MAX_NESTING_LEVEL: u32 = 64;
 
 /// A lookup at a glyph.
 #[derive(Drop)]
-struct Task<'a, P> {
+struct Task<'a, 'l, P> {
     /// The font's lookups and its size.
     setting: &'a Setting<'a, P>,
-    /// The lookup.
-    lookup: &'a Lookup<'a>,
+    /// The lookup, and its iterators.
+    applied: &'l LookupContext<'a>,
     /// How it is applied.
     options: &'a LookupOptions,
     /// The place of the glyph.
     place: usize,
     /// How many levels of lookups it may apply.
     depth: u32,
+    ghost made: { IsMadeFor options.now true applied.now },
 }
 
 /// Positions the glyphs by the lookup of this index, where the buffer's glyphs have one of the options' bits. A budget that is spent
@@ -104,6 +106,7 @@ fn place_all<'a, P: ContourPoints>(
         return;
     };
     search.budget.pay_for(1 + buffer.len() / PASSED_A_STEP);
+    let applied = LookupContext::new(lookup, options, true);
     let mut last = LastBase::none();
     let mut next = 0;
     for _turn in 0..buffer.len() {
@@ -113,7 +116,7 @@ fn place_all<'a, P: ContourPoints>(
         }
         let task = Task {
             setting,
-            lookup,
+            applied: &applied,
             options,
             place,
             depth: MAX_NESTING_LEVEL,
@@ -136,16 +139,16 @@ fn next_place(glyphs: &[hb_glyph_info_t], lookup: &Lookup, mask: u32, from: usiz
 
 /// Positions the glyph by the first subtable that does, and says where the iterator goes on.
 #[cycle(nested)]
-fn place_by_lookup<'a, P: ContourPoints>(
+fn place_by_lookup<'a, 'l, P: ContourPoints>(
     buffer: &mut hb_buffer_t,
-    task: &Task<'a, P>,
+    task: &Task<'a, 'l, P>,
     search: &mut Search,
     last: &mut LastBase,
 ) -> Option<usize>
     requires placed { HasPositions buffer.old }
     ensures kept { KeepsText buffer.old buffer.new }
     ensures spent { IsNotMore search.old.budget search.new.budget }
-    ensures exact { let a = applied task.now.setting.now.list.now task.now.lookup.now task.now.options.now task.now.setting.now.instance in
+    ensures exact { let a = applied task.now.setting.now.list.now task.now.applied.now.lookup.now task.now.options.now task.now.setting.now.instance in
         HasNoPixels a.instance → 0 < search.new.budget.steps
         → IsTried task.now.depth a task.now.place (text_of buffer.old last.old search.old.budget.nested)
         (outcome (text_of buffer.new last.new search.new.budget.nested) result) }
@@ -154,7 +157,7 @@ fn place_by_lookup<'a, P: ContourPoints>(
         return None;
     }
     let glyph = buffer.info()[task.place].glyph_id;
-    let subtables = task.setting.list.subtables_of(task.lookup);
+    let subtables = task.setting.list.subtables_of(task.applied.lookup);
     search.budget.pay_for(subtables.len() / PASSED_A_STEP);
     for subtable in subtables {
         let next = try_subtable(buffer, task, subtable, glyph, search, last);
@@ -167,9 +170,9 @@ fn place_by_lookup<'a, P: ContourPoints>(
 
 /// Positions the glyph of this number by a subtable, if it covers the glyph, and says where the iterator goes on.
 #[cycle(nested)]
-fn try_subtable<'a, P: ContourPoints>(
+fn try_subtable<'a, 'l, P: ContourPoints>(
     buffer: &mut hb_buffer_t,
-    task: &Task<'a, P>,
+    task: &Task<'a, 'l, P>,
     subtable: &'a Subtable<'a>,
     glyph: u32,
     search: &mut Search,
@@ -180,7 +183,7 @@ fn try_subtable<'a, P: ContourPoints>(
     requires next { IsNextOf task.now.setting.now.list.now.coverages.items subtable.now }
     ensures kept { KeepsText buffer.old buffer.new }
     ensures spent { IsNotMore search.old.budget search.new.budget }
-    ensures exact { let a = applied task.now.setting.now.list.now task.now.lookup.now task.now.options.now task.now.setting.now.instance in
+    ensures exact { let a = applied task.now.setting.now.list.now task.now.applied.now.lookup.now task.now.options.now task.now.setting.now.instance in
         HasNoPixels a.instance → 0 < search.new.budget.steps
         → IsOneTried (others.nested task.now.depth a) a task.now.place glyph subtable.now
         (text_of buffer.old last.old search.old.budget.nested)
@@ -194,9 +197,9 @@ fn try_subtable<'a, P: ContourPoints>(
     }
     let index = index_in(subtable, glyph)?;
     let turn = Turn {
-        lookup: task.lookup,
+        lookup: task.applied.lookup,
         subtable,
-        iterator: SkippingIterator::over_input(task.lookup.lookup_props, task.options, true),
+        iterator: task.applied.iterator,
         instance: &task.setting.instance,
         place: task.place,
         index,
@@ -215,9 +218,9 @@ fn index_in(subtable: &Subtable, glyph: u32) -> Option<u32>
 /// Positions the glyph by a subtable that is for it, and says where the iterator goes on; `None` where the subtable does not fit.
 #[cycle(nested)]
 #[inline(never)]
-fn place_by_subtable<'a, P: ContourPoints>(
+fn place_by_subtable<'a, 'l, P: ContourPoints>(
     buffer: &mut hb_buffer_t,
-    task: &Task<'a, P>,
+    task: &Task<'a, 'l, P>,
     turn: &Turn<'a>,
     search: &mut Search,
     last: &mut LastBase,
@@ -228,7 +231,7 @@ fn place_by_subtable<'a, P: ContourPoints>(
     requires next { IsNextOf task.now.setting.now.list.now.coverages.items turn.now.subtable.now }
     ensures kept { KeepsText buffer.old buffer.new }
     ensures spent { IsNotMore search.old.budget search.new.budget }
-    ensures exact { let a = applied task.now.setting.now.list.now task.now.lookup.now task.now.options.now task.now.setting.now.instance in
+    ensures exact { let a = applied task.now.setting.now.list.now task.now.applied.now.lookup.now task.now.options.now task.now.setting.now.instance in
         HasNoPixels a.instance → HasNoPixels turn.now.instance.now → 0 < search.new.budget.steps
         → IsVisited (others.nested task.now.depth a) a (visit_of turn.now) (text_of buffer.old last.old search.old.budget.nested)
         (outcome (text_of buffer.new last.new search.new.budget.nested) result) }
@@ -268,9 +271,9 @@ fn place_by_simple<P: ContourPoints>(
 
 /// Applies the lookups of the rule that fits at the glyph, and says where the iterator goes on.
 #[cycle(nested)]
-fn place_by_context<'a, P: ContourPoints>(
+fn place_by_context<'a, 'l, P: ContourPoints>(
     buffer: &mut hb_buffer_t,
-    task: &Task<'a, P>,
+    task: &Task<'a, 'l, P>,
     context: &Turn<'a>,
     search: &mut Search,
     last: &mut LastBase,
@@ -281,13 +284,13 @@ fn place_by_context<'a, P: ContourPoints>(
     requires next { IsNextOf task.now.setting.now.list.now.coverages.items context.now.subtable.now }
     ensures kept { KeepsText buffer.old buffer.new }
     ensures spent { IsNotMore search.old.budget search.new.budget }
-    ensures exact { let a = applied task.now.setting.now.list.now task.now.lookup.now task.now.options.now task.now.setting.now.instance in
+    ensures exact { let a = applied task.now.setting.now.list.now task.now.applied.now.lookup.now task.now.options.now task.now.setting.now.instance in
         HasNoPixels a.instance → 0 < search.new.budget.steps
         → IsContextDone (others.nested task.now.depth a) a (visit_of context.now) (text_of buffer.old last.old search.old.budget.nested)
         (outcome (text_of buffer.new last.new search.new.budget.nested) result) }
 {
-    let around = SkippingIterator::over_context(task.lookup.lookup_props, task.options, true);
-    let fit = fit_at(buffer.info(), task.setting.list, context, &around, search);
+    let around = &task.applied.context;
+    let fit = fit_at(buffer.info(), task.setting.list, context, around, search);
     let reached = context.place.saturating_add(search.reach.to);
     mark_concat(buffer, search.reach.from, reached);
     let fit = fit?;
@@ -301,9 +304,9 @@ fn place_by_context<'a, P: ContourPoints>(
 
 /// Applies the lookups of a rule at the glyphs that it names, whose places are counted from the rule's first glyph.
 #[cycle(nested)]
-fn apply_records<'a, P: ContourPoints>(
+fn apply_records<'a, 'l, P: ContourPoints>(
     buffer: &mut hb_buffer_t,
-    task: &Task<'a, P>,
+    task: &Task<'a, 'l, P>,
     fit: &Fit<'a>,
     places: &MatchPositions,
     search: &mut Search,
@@ -312,51 +315,49 @@ fn apply_records<'a, P: ContourPoints>(
     requires placed { HasPositions buffer.old }
     ensures kept { KeepsText buffer.old buffer.new }
     ensures spent { IsNotMore search.old.budget search.new.budget }
-    ensures exact { let a = applied task.now.setting.now.list.now task.now.lookup.now task.now.options.now task.now.setting.now.instance in
+    ensures exact { let a = applied task.now.setting.now.list.now task.now.applied.now.lookup.now task.now.options.now task.now.setting.now.instance in
         HasNoPixels a.instance → 0 < search.new.budget.steps
         → AreDone (record_done (others.nested task.now.depth a) a.list.lookups.items fit.now.records.now task.now.place places.now.items)
         fit.now.record_count (text_of buffer.old last.old search.old.budget.nested)
         (text_of buffer.new last.new search.new.budget.nested) }
 {
     for index in 0..usize::from(fit.record_count) {
-        if let Some(nested) = nested_task(task, fit, places, index) {
+        if let Some((lookup, place)) = nested_lookup(task, fit, places, index) {
             if task.depth == 0 || !search.budget.nest() {
                 fail(buffer);
                 return;
             }
+            let applied = LookupContext::new(lookup, task.options, true);
+            let nested = Task {
+                setting: task.setting,
+                applied: &applied,
+                options: task.options,
+                place,
+                depth: task.depth - 1,
+            };
             let _next = place_by_lookup(buffer, &nested, search, last);
         }
     }
 }
 
-/// The lookup of a record, at the glyph that the record names; `None` where there is no such lookup or glyph.
-fn nested_task<'a, P>(
-    task: &Task<'a, P>,
+/// The lookup of a record, and the place of the glyph that the record names; `None` where there is no such lookup or glyph.
+fn nested_lookup<'a, 'l, P>(
+    task: &Task<'a, 'l, P>,
     fit: &Fit,
     places: &MatchPositions,
     index: usize,
-) -> Option<Task<'a, P>>
+) -> Option<(&'a Lookup<'a>, usize)>
     requires { index < 65536 }
-    ensures depth { IfSome result (λ nested. nested.depth ≡ task.now.depth - 1) }
-    ensures same { IfSome result (λ nested.
-        applied nested.setting.now.list.now nested.lookup.now nested.options.now nested.setting.now.instance
-        ≡ applied task.now.setting.now.list.now nested.lookup.now task.now.options.now task.now.setting.now.instance) }
-    ensures some { IfSome result (λ nested.
+    ensures some { IfSome result (λ found.
         named task.now.setting.now.list.now.lookups.items fit.now.records.now task.now.place places.now.items index
-        ≡ Some (target nested.lookup.now nested.place)) }
+        ≡ Some (target found.0.now found.1)) }
     ensures none { IfNone result
         (named task.now.setting.now.list.now.lookups.items fit.now.records.now task.now.place places.now.items index ≡ None) }
 {
     let record = fit.record(index)?;
     let at = *places.as_slice().get(record.sequence_index)?;
     let lookup = task.setting.list.lookup(record.lookup)?;
-    Some(Task {
-        setting: task.setting,
-        lookup,
-        options: task.options,
-        place: task.place.saturating_add(at),
-        depth: task.depth.saturating_sub(1),
-    })
+    Some((lookup, task.place.saturating_add(at)))
 }
 
 /// Says that shaping was given up where the budget is spent.

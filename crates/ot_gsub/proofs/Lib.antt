@@ -17,4 +17,5 @@ pub mod RunsLemmas
 pub mod RunsRows
 pub mod SingleTurnLemmas
 pub mod SinglesLemmas
+pub mod StepLemmas
 pub mod TurnLemmas

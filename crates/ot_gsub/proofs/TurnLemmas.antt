@@ -4,8 +4,10 @@ use Rattle.std.proofs.lemmas.Bool.{false≢true}
 use Rattle.std.specs.Prelude.{nat_lt, slice_get}
 use Rattle.std.specs.Result.{IsErr}
 use Rattle.std.specs.declared.alloc.AllocError.{AllocError}
+use Rattle.ot_substitution.specs.FirstEdit.{IsFirstEdit}
 use Rattle.ot_substitution.specs.declared.glyph_table.Glyphs.{Glyphs}
 use Rattle.ot_lookups.specs.declared.lookup_list.Lookup.{Lookup}
+use Rattle.ot_layout.specs.declared.search.ApplyContext.{ApplyContext}
 use Rattle.ot_layout.specs.declared.search.Reach.{Reach}
 use Rattle.ot_layout.specs.declared.search.Search.{Search}
 use Rattle.ot_substitution.specs.declared.substitution.Edit.{Edit}
@@ -13,7 +15,7 @@ use Rattle.ot_substitution.specs.declared.substitution.Edit.TheVariants.{Choose}
 use Rattle.shaping_buffer.specs.State.{State}
 use Rattle.ot_gsub.specs.Edits.{Gives, GivesOrWants, choose, next_random}
 use Rattle.ot_gsub.specs.Nested.{Applies, Now, now_of}
-use Rattle.ot_gsub.specs.Turn.{Ends, IsDecided, IsMade, IsTurnAt, MayRunOut, mark_beyond, mark_reach, nested, rest_beyond}
+use Rattle.ot_gsub.specs.Turn.{Ends, IsApplyContext, IsDecided, IsMade, IsTurnAt, MayRunOut, mark_beyond, mark_reach, nested, rest_beyond, subtables}
 use Rattle.ot_gsub.specs.declared.nested.Step.{Step}
 use Rattle.ot_gsub.specs.declared.nested.Step.TheVariants.{Applied, Passed, Refused}
 use Rattle.ot_gsub.specs.declared.substitution.Progress.{Progress}
@@ -74,6 +76,26 @@ module _ (depth : ℕ) (substitutions : Substitutions) (lookup : Lookup) (p q : 
         (λ (o : Now). IsMade (nested depth substitutions) gdef_of q.search.places.items edit o step new)
         (marked_is reach m is same) made;
   }
+
+  -- what is found by the glyphs around the cursor
+  pub decided_by : (ctx : ApplyContext) (found edit : Option Edit) → IsApplyContext substitutions lookup s ctx
+      → IsFirstEdit substitutions.list.now.coverages.items substitutions.options ctx (nat_lt depth 64) (subtables substitutions lookup)
+      q.search.places.items found
+      → found ≡ edit → IsDecided substitutions lookup (nat_lt depth 64) s q.search.places.items edit
+  decided_by ctx found edit are first is = record {
+    ctx = ctx;
+    are = are;
+    first = subst
+        (λ (e : Option Edit). IsFirstEdit substitutions.list.now.coverages.items substitutions.options ctx (nat_lt depth 64)
+        (subtables substitutions lookup) q.search.places.items e) is first;
+  }
+
+  -- no subtable has an edit
+  pub turn_passed : (reach : Reach) (m : State) → IsDecided substitutions lookup (nat_lt depth 64) s q.search.places.items None
+      → m ≡ mark_reach reach s → q.random_state ≡ p.random_state → q.search.budget.nested ≤ p.search.budget.nested
+      → IsTurnAt depth substitutions lookup (now_of s p) (Ok Passed) (now_of m q)
+  turn_passed reach m decided is same fewer =
+      turn_by None reach m (Ok Passed) (now_of m q) decided is same fewer (refl, refl)
 
   module _ (edit : Edit) (reach : Reach) (m new1 : State) (r : Progress) (told : Result Bool AllocError)
       (decided : IsDecided substitutions lookup (nat_lt depth 64) s q.search.places.items (Some edit))

@@ -43,6 +43,13 @@ pub record IsApplyContext (substitutions : Substitutions) (lookup : Lookup) (s :
   pub syllable : ctx.syllable ≡ syllable_at substitutions.options s
   pub level : ctx.is_level ≡ (length s.out == s.idx)
 
+-- how many glyphs at the cursor a lookup is not tried at any more: the one at which it does nothing; where a call was refused it goes on
+-- nowhere
+abbrev pub passed_by : Step → Option ℕ
+passed_by Applied = Some 0
+passed_by Passed = Some 1
+passed_by Refused = None
+
 -- the edit of the first subtable of a lookup that has one at the cursor, and the places of the glyphs of its match from there on
 pub record IsDecided (substitutions : Substitutions) (lookup : Lookup) (is_nested : Bool) (s : State) (places : List ℕ) (edit : Option Edit) : Type 0 where
   pub ctx : ApplyContext

@@ -1,6 +1,7 @@
 //! A lookup at the cursor, and the lookups that it applies.
 
-ghost use Rattle.std.specs.Prelude.{◌≡◌, ◌+◌, ◌<◌, ◌≤◌, true, false, length, min, nat_lt, IfOk, Ok, if◌then◌else◌};
+ghost use Rattle.std.specs.Prelude.{◌≡◌, ◌+◌, ◌<◌, ◌≤◌, true, false, length, min, IfOk, Ok, if◌then◌else◌};
+ghost use Rattle.ot_layout.specs.ApplyContext.{IsMadeFor};
 ghost use Rattle.ot_layout.specs.Budget.{IsNotMore};
 ghost use Rattle.ot_gsub.specs.Changes.{glyph_numbers};
 ghost use Rattle.ot_gsub.specs.Edits.{GivesOrWants};
@@ -9,7 +10,7 @@ ghost use Rattle.ot_gsub.specs.Open.{IsLeftOpen};
 ghost use Rattle.ot_gsub.specs.Nested as lookups;
 ghost use Rattle.ot_gsub.specs.Nested.{IsFitDone, IsRecordDone, now_of};
 ghost use Rattle.ot_gsub.specs.Turn as turn;
-ghost use Rattle.ot_gsub.specs.Turn.{Ends, IsDecided, IsTurnAt, nested};
+ghost use Rattle.ot_gsub.specs.Turn.{Ends, IsApplyContext, IsTurnAt, nested, passed_by};
 ghost use Rattle.ot_gsub.specs.declared.nested.Turn.TheVariants.{On, Enough};
 ghost use Rattle.shaping_buffer.specs.KeepsClusters.{KeepsClusters};
 ghost use Rattle.shaping_buffer.specs.Step.{move_to};
@@ -21,8 +22,7 @@ use crate::substitution::{Progress, Substitutions};
 use crate::writing::{fail, glyph_ahead};
 use ot_contexts::context::{Fit, MAX_NESTING_LEVEL, SequenceLookupRecord};
 use ot_contexts::match_positions::Matched;
-use ot_layout::{ApplyContext, LookupOptions, Reach, SkippingIterator};
-use ot_lookups::Lookup;
+use ot_layout::{ApplyContext, LookupContext, LookupOptions, Reach};
 use ot_substitution::substitution::{Edit, edit_at};
 use shaping_buffer::hb_buffer_t;
 use std::alloc::AllocError;
@@ -38,19 +38,33 @@ pub(crate) enum Step {
     Refused,
 }
 
+impl Step {
+    /// How many glyphs at the cursor the lookup is not tried at any more: the one at which it does nothing. `None` where it goes on nowhere.
+    pub(crate) fn passed(self) -> Option<usize>
+        ensures { result ≡ passed_by self }
+    {
+        match self {
+            Step::Applied => Some(0),
+            Step::Passed => Some(1),
+            Step::Refused => None,
+        }
+    }
+}
+
 /// Applies a lookup to the glyph at the cursor. Lookups may apply others, so many levels deep.
 #[cycle(nested)]
 pub(crate) fn apply_at(
     buffer: &mut hb_buffer_t,
     substitutions: &Substitutions,
-    lookup: &Lookup,
+    applied: &LookupContext,
     progress: &mut Progress,
     depth: u32,
 ) -> Result<Step, AllocError>
     requires opened { buffer.old.have_output ≡ true }
     requires glyph { 0 < length buffer.old.input }
+    requires made { IsMadeFor substitutions.now.options false applied.now }
     ensures turn { 0 < progress.new.search.budget.steps
-        → IsTurnAt depth substitutions.now lookup.now (now_of buffer.old progress.old) result (now_of buffer.new progress.new) }
+        → IsTurnAt depth substitutions.now applied.now.lookup.now (now_of buffer.old progress.old) result (now_of buffer.new progress.new) }
     ensures changed { result ≡ Ok Step.Applied → progress.new.has_changed ≡ true }
     ensures passed { result ≡ Ok Step.Passed → progress.new.has_changed ≡ progress.old.has_changed }
     ensures numbers { result ≡ Ok Step.Passed → glyph_numbers buffer.new ≡ glyph_numbers buffer.old }
@@ -60,7 +74,17 @@ pub(crate) fn apply_at(
     ensures refusal { IsRefusal Step.Refused result buffer.new }
     ensures keeps { KeepsClusters buffer.old buffer.new }
 {
-    let edit = decide(buffer, substitutions, lookup, progress, depth);
+    let is_nested = depth < MAX_NESTING_LEVEL;
+    let ctx = apply_context(buffer, substitutions, applied);
+    progress.search.reach = Reach::none(ctx.out.len());
+    let edit = edit_at(
+        substitutions.list,
+        applied.lookup,
+        &substitutions.options,
+        is_nested,
+        &ctx,
+        &mut progress.search,
+    );
     mark_reach(buffer, &progress.search.reach);
     let Some(edit) = edit else {
         return Ok(Step::Passed);
@@ -74,41 +98,25 @@ pub(crate) fn apply_at(
     Ok(Step::Applied)
 }
 
-/// What the lookup does at the cursor, and in `progress` how far it looked.
-fn decide<'a>(
-    buffer: &hb_buffer_t,
-    substitutions: &Substitutions<'a>,
-    lookup: &Lookup,
-    progress: &mut Progress,
-    depth: u32,
-) -> Option<Edit<'a>>
+/// The glyphs on both sides of the cursor, and the iterators of a lookup.
+fn apply_context<'a>(
+    buffer: &'a hb_buffer_t,
+    substitutions: &Substitutions,
+    applied: &LookupContext<'a>,
+) -> ApplyContext<'a>
     requires opened { buffer.now.have_output ≡ true }
     requires glyph { 0 < length buffer.now.input }
-    ensures decided { 0 < progress.new.search.budget.steps
-        → IsDecided substitutions.now lookup.now (nat_lt depth 64) buffer.now progress.new.search.places.items result }
-    ensures same_random { progress.new.random_state ≡ progress.old.random_state }
-    ensures same_changed { progress.new.has_changed ≡ progress.old.has_changed }
-    ensures spent { IsNotMore progress.old.search.budget progress.new.search.budget }
+    requires made { IsMadeFor substitutions.now.options false applied.now }
+    ensures { IsApplyContext substitutions.now applied.now.lookup.now buffer.now result }
 {
-    let options = &substitutions.options;
-    let ctx = ApplyContext {
+    ApplyContext {
         out: buffer.out_info(),
         input: buffer.info(),
-        iterator: SkippingIterator::over_input(lookup.lookup_props, options, false),
-        context: SkippingIterator::over_context(lookup.lookup_props, options, false),
-        syllable: syllable_at(buffer, options),
+        iterator: applied.iterator,
+        context: applied.context,
+        syllable: syllable_at(buffer, &substitutions.options),
         is_level: buffer.out_len() == buffer.idx(),
-    };
-    progress.search.reach = Reach::none(ctx.out.len());
-    let is_nested = depth < MAX_NESTING_LEVEL;
-    edit_at(
-        substitutions.list,
-        lookup,
-        options,
-        is_nested,
-        &ctx,
-        &mut progress.search,
-    )
+    }
 }
 
 /// The syllable of the current glyph where all glyphs of a match are of one syllable, or else 0.
@@ -389,7 +397,10 @@ fn apply_other(
         return Ok(Step::Passed);
     }
     match substitutions.list.lookup(index) {
-        Some(lookup) => apply_at(buffer, substitutions, lookup, progress, depth - 1),
+        Some(lookup) => {
+            let applied = LookupContext::new(lookup, &substitutions.options, false);
+            apply_at(buffer, substitutions, &applied, progress, depth - 1)
+        }
         None => Ok(Step::Passed),
     }
 }

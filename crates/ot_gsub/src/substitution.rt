@@ -1,6 +1,7 @@
 //! One lookup, applied to all glyphs of a buffer.
 
 ghost use Rattle.std.specs.Prelude.{ℕ, ◌≡◌, ◌+◌, ◌<◌, ◌≤◌, true, false, length, slice_get, IfOk, IsErr, Ok, Some};
+ghost use Rattle.ot_layout.specs.ApplyContext.{IsMadeFor};
 ghost use Rattle.ot_layout.specs.Budget.{IsNotMore};
 ghost use Rattle.ot_lookups.specs.Lookup.{is_for};
 ghost use Rattle.ot_lookups.specs.Subtables.{subtables_of};
@@ -8,18 +9,18 @@ ghost use Rattle.ot_lookups.specs.LookupProps.{glyph_at};
 ghost use Rattle.ot_gsub.specs.Changes.{TellsChanges, glyph_numbers};
 ghost use Rattle.ot_gsub.specs.Nested.{now_of};
 ghost use Rattle.ot_gsub.specs.Open.{IsLeftOpen, IsLeftClosed};
-ghost use Rattle.ot_gsub.specs.Runs.{IsForward, IsRestDone, IsRun, IsUnderWay, IsWanting};
-ghost use Rattle.ot_gsub.specs.Singles.{GoesOn, HasMoved, IsForNext, IsLevel, IsSingle, IsSingleIf, IsSubstituted, moved, opened_at, starts_reverse, substituted};
+ghost use Rattle.ot_gsub.specs.Runs.{IsForward, IsRestDone, IsRun, IsWanting};
+ghost use Rattle.ot_gsub.specs.Singles.{GoesOn, IsForNext, IsLevel, IsSingle, IsSingleIf, IsSubstituted, moved, opened_at, starts_reverse, substituted};
 ghost use Rattle.shaping_buffer.specs.KeepsClusters.{KeepsClusters};
 ghost use Rattle.shaping_passes.specs.Refusals.{IsRefusal};
 
-use crate::nested::{Step, apply_at};
+use crate::nested::apply_at;
 use crate::reverse::substitute_reverse;
 use crate::writing::fail;
 use font_tables::gdef::Gdef;
 use ot_contexts::context::MAX_NESTING_LEVEL;
 use ot_layout::budget::PASSED_A_STEP;
-use ot_layout::{Budget, LookupOptions, Search};
+use ot_layout::{Budget, LookupContext, LookupOptions, Search};
 use ot_lookups::{Lookup, LookupList, SubtableKind};
 use shaping_buffer::hb_buffer_t;
 use std::alloc::AllocError;
@@ -167,7 +168,8 @@ fn substitute_forward(
     if !open_at(buffer, first)? {
         return Ok(false);
     }
-    if !substitute_rest(buffer, substitutions, lookup, progress)? {
+    let applied = LookupContext::new(lookup, &substitutions.options, false);
+    if !substitute_rest(buffer, substitutions, &applied, progress)? {
         return Ok(false);
     }
     fail_if_spent(buffer, progress);
@@ -191,16 +193,18 @@ fn open_at(buffer: &mut hb_buffer_t, first: usize) -> Result<bool, AllocError>
 fn substitute_rest(
     buffer: &mut hb_buffer_t,
     substitutions: &Substitutions,
-    lookup: &Lookup,
+    applied: &LookupContext,
     progress: &mut Progress,
 ) -> Result<bool, AllocError>
-    requires { buffer.old.have_output ≡ true }
-    ensures rest { 0 < progress.new.search.budget.steps → IsForNext substitutions.now lookup.now buffer.old
-        → IsRestDone substitutions.now lookup.now (now_of buffer.old progress.old) result (now_of buffer.new progress.new) }
-    ensures singles { 0 < progress.new.search.budget.steps → IsSingle substitutions.now lookup.now buffer.old
-        → IsLevel buffer.old → IsForNext substitutions.now lookup.now buffer.old
+    requires opened { buffer.old.have_output ≡ true }
+    requires made { IsMadeFor substitutions.now.options false applied.now }
+    ensures rest { 0 < progress.new.search.budget.steps → IsForNext substitutions.now applied.now.lookup.now buffer.old
+        → IsRestDone substitutions.now applied.now.lookup.now (now_of buffer.old progress.old) result
+        (now_of buffer.new progress.new) }
+    ensures singles { 0 < progress.new.search.budget.steps → IsSingle substitutions.now applied.now.lookup.now buffer.old
+        → IsLevel buffer.old → IsForNext substitutions.now applied.now.lookup.now buffer.old
         → (result ≡ Ok true)
-        × (buffer.new ≡ moved (substituted substitutions.now lookup.now) (length buffer.old.input) buffer.old) }
+        × (buffer.new ≡ moved (substituted substitutions.now applied.now.lookup.now) (length buffer.old.input) buffer.old) }
     ensures tells { result ≡ Ok true → TellsChanges buffer.old progress.old.has_changed buffer.new progress.new.has_changed }
     ensures left { IsLeftOpen result buffer.new }
     ensures spent { IsNotMore progress.old.search.budget progress.new.search.budget }
@@ -215,38 +219,16 @@ fn substitute_rest(
         if progress.search.budget.is_spent() {
             return Ok(true);
         }
-        if !substitute_next(buffer, substitutions, lookup, progress)? {
+        let step = apply_at(buffer, substitutions, applied, progress, MAX_NESTING_LEVEL)?;
+        let passed = match step.passed() {
+            Some(passed) => passed,
+            None => return Ok(false),
+        };
+        if !go_on(buffer, substitutions, applied.lookup, passed)? {
             return Ok(false);
         }
     }
     Ok(true)
-}
-
-/// Applies the lookup at the cursor, and puts out the glyphs after that it is not for.
-fn substitute_next(
-    buffer: &mut hb_buffer_t,
-    substitutions: &Substitutions,
-    lookup: &Lookup,
-    progress: &mut Progress,
-) -> Result<bool, AllocError>
-    requires opened { buffer.old.have_output ≡ true }
-    requires glyph { 0 < length buffer.old.input }
-    ensures next { 0 < progress.new.search.budget.steps → IsForNext substitutions.now lookup.now buffer.old
-        → IsUnderWay substitutions.now lookup.now 1 (now_of buffer.old progress.old) result (now_of buffer.new progress.new) }
-    ensures singles { 0 < progress.new.search.budget.steps → IsSingle substitutions.now lookup.now buffer.old
-        → IsLevel buffer.old → IsForNext substitutions.now lookup.now buffer.old
-        → (result ≡ Ok true) × HasMoved substitutions.now lookup.now 1 buffer.old buffer.new }
-    ensures tells { result ≡ Ok true → TellsChanges buffer.old progress.old.has_changed buffer.new progress.new.has_changed }
-    ensures left { IsLeftOpen result buffer.new }
-    ensures spent { IsNotMore progress.old.search.budget progress.new.search.budget }
-    ensures refusal { IsRefusal false result buffer.new }
-    ensures keeps { KeepsClusters buffer.old buffer.new }
-{
-    match apply_at(buffer, substitutions, lookup, progress, MAX_NESTING_LEVEL)? {
-        Step::Applied => go_on(buffer, substitutions, lookup, 0),
-        Step::Refused => Ok(false),
-        Step::Passed => go_on(buffer, substitutions, lookup, 1),
-    }
 }
 
 /// Puts out so many glyphs, if there are as many, and those after them that the lookup is not for.

@@ -4,11 +4,11 @@ use Rattle.ot_layout.specs.declared.budget.Budget.{Budget}
 use Rattle.ot_layout.specs.declared.search.Search.{Search}
 use Rattle.ot_contexts.proofs.NextLemmas.{next_of_each}
 use Rattle.ot_lookups.specs.LookupProps.{glyph_at}
-use Rattle.ot_gpos.specs.Attachments.{HasNoPixels}
-use Rattle.ot_gpos.specs.Contexts.{AreDone, ahead, looked_at, named, record_done}
+use Rattle.ot_lookups.specs.declared.lookup_list.Lookup.{Lookup}
+use Rattle.ot_gpos.specs.Contexts.{AreDone, ahead, looked_at, named, record_done, target}
 use Rattle.ot_attachments.specs.Flags.{break_marked}
 use Rattle.ot_attachments.proofs.KeptLemmas.{kept_none, kept_then}
-use Rattle.ot_gpos.specs.Lookups.{Applied, Text, applied, outcome, text_of}
+use Rattle.ot_gpos.specs.Lookups.{Text, applied, outcome, text_of}
 use Rattle.ot_gpos.specs.Nested.{AreTried, IsVisited, nested}
 use Rattle.ot_gpos.specs.Visit.{visit_of}
 use Rattle.ot_gpos.proofs.ContextLemmas.{break_to, concat_to, decided_read, done_next, done_none, fit_done, none_given, record_none, records_at, text_of-same}
@@ -27,7 +27,7 @@ pub place_by_lookup-loop-subtable-init : goal.place_by_lookup-loop-subtable-init
 place_by_lookup-loop-subtable-init g t c =
     let task = c.args.task.now in
     let setting = task.setting.now in
-    let a = applied setting.list.now task.lookup.now task.options.now setting.instance in
+    let a = applied setting.list.now task.applied.now.lookup.now task.options.now setting.instance in
     record {
       kept = kept_none _ c.requires.placed;
       spent = (omega (arith, c.pay_for.ensures.spent.0), omega (arith, c.pay_for.ensures.spent.1));
@@ -43,7 +43,7 @@ pub place_by_lookup-loop-subtable-preserved : goal.place_by_lookup-loop-subtable
 place_by_lookup-loop-subtable-preserved g t c =
     let task = c.args.task.now in
     let setting = task.setting.now in
-    let a = applied setting.list.now task.lookup.now task.options.now setting.instance in
+    let a = applied setting.list.now task.applied.now.lookup.now task.options.now setting.instance in
     let ts = c.subtables_of-subtables.result.now in
     let i = c.loop-subtable.subtable-index in
     let one = c.subtable-item.result in
@@ -77,7 +77,7 @@ place_by_lookup-try_subtable-next-requires g t c =
       len_closed c.args.buffer.now c.requires.placed.closed,
       same_length c.args.buffer.now c.loop-subtable.buffer c.loop-subtable.invariant.kept.rest,
     ) in
-    let next = next_of_each list.coverages.items list.subtables.items c.subtables_of-subtables.result.now task.lookup.now
+    let next = next_of_each list.coverages.items list.subtables.items c.subtables_of-subtables.result.now task.applied.now.lookup.now
     c.loop-subtable.subtable-index c.subtable-item.result c.subtables_of-subtables.ensures list.nexts c.loop-subtable-test.true
     c.subtable-item.is in
     first_of (search (rules, less, within, next), assumption (less, within, next), grind (arith, less, within, next))
@@ -86,7 +86,7 @@ pub place_by_lookup-returns-then-is_some-clause-exact : goal.place_by_lookup-ret
 place_by_lookup-returns-then-is_some-clause-exact g t c = λ plain steps.
     let task = c.args.task.now in
     let setting = task.setting.now in
-    let a = applied setting.list.now task.lookup.now task.options.now setting.instance in
+    let a = applied setting.list.now task.applied.now.lookup.now task.options.now setting.instance in
     let ts = c.subtables_of-subtables.result.now in
     let before : 0 < c.loop-subtable.search.budget.steps = omega (arith, steps, c.try_subtable-next.ensures.spent.1) in
     let old = text_of c.args.buffer.now c.args.last.now c.args.search.now.budget.nested in
@@ -107,7 +107,7 @@ pub place_by_lookup-returns-clause-exact : goal.place_by_lookup-returns-clause-e
 place_by_lookup-returns-clause-exact g t c = λ plain steps.
     let task = c.args.task.now in
     let setting = task.setting.now in
-    let a = applied setting.list.now task.lookup.now task.options.now setting.instance in
+    let a = applied setting.list.now task.applied.now.lookup.now task.options.now setting.instance in
     let ts = c.subtables_of-subtables.result.now in
     let old = text_of c.args.buffer.now c.args.last.now c.args.search.now.budget.nested in
     let mid = text_of c.loop-subtable.buffer c.loop-subtable.last c.loop-subtable.search.budget.nested in
@@ -125,7 +125,7 @@ pub try_subtable-returns-then-not-may_be_for-clause-exact : goal.try_subtable-re
 try_subtable-returns-then-not-may_be_for-clause-exact g t c = λ plain steps.
     let task = c.args.task.now in
     let setting = task.setting.now in
-    let a = applied setting.list.now task.lookup.now task.options.now setting.instance in
+    let a = applied setting.list.now task.applied.now.lookup.now task.options.now setting.instance in
     let old = text_of c.args.buffer.now c.args.last.now c.args.search.now.budget.nested in
     one_uncovered (nested task.depth a) a task.place c.args.glyph c.args.subtable.now old (outcome old None)
     (uncovered _ _ c.may_be_for.ensures c.if-not-may_be_for.true) refl
@@ -138,7 +138,7 @@ pub try_subtable-returns-in_err-index-clause-exact : goal.try_subtable-returns-i
 try_subtable-returns-in_err-index-clause-exact g t c = λ plain steps.
     let task = c.args.task.now in
     let setting = task.setting.now in
-    let a = applied setting.list.now task.lookup.now task.options.now setting.instance in
+    let a = applied setting.list.now task.applied.now.lookup.now task.options.now setting.instance in
     let old = text_of c.args.buffer.now c.args.last.now c.args.search.now.budget.nested in
     let paid = text_of c.args.buffer.now c.args.last.now c.pay.new.self.nested in
     one_uncovered (nested task.depth a) a task.place c.args.glyph c.args.subtable.now old (outcome paid c.from_residual.result)
@@ -152,15 +152,16 @@ pub try_subtable-returns-clause-exact : goal.try_subtable-returns-clause-exact
 try_subtable-returns-clause-exact g t c = λ plain steps.
     let task = c.args.task.now in
     let setting = task.setting.now in
-    let a = applied setting.list.now task.lookup.now task.options.now setting.instance in
+    let a = applied setting.list.now task.applied.now.lookup.now task.options.now setting.instance in
     let old = text_of c.args.buffer.now c.args.last.now c.args.search.now.budget.nested in
     let o = outcome
     (text_of c.place_by_subtable.new.buffer c.place_by_subtable.new.last c.place_by_subtable.new.search.budget.nested)
     c.place_by_subtable.result in
-    let visit = visit_with a task.place c.args.subtable.now c.in_ok-index.index c.over_input.result in
+    let iterator = task.applied.now.iterator in
+    let visit = visit_with a task.place c.args.subtable.now c.in_ok-index.index iterator in
     one_covered (nested task.depth a) a task.place c.args.glyph c.args.subtable.now c.in_ok-index.index visit old o
     (sym c.index_in.ensures ∙ c.in_ok-index.was)
-    (visit_with-is a task.place c.args.subtable.now c.in_ok-index.index c.over_input.result c.over_input.ensures)
+    (visit_with-is a task.place c.args.subtable.now c.in_ok-index.index iterator task.made.iterator)
     (subst (λ (x : Text). IsVisited (nested task.depth a) a visit x o)
     (text_of-same c.args.buffer.now c.args.buffer.now c.args.last.now c.args.search.now.budget.nested c.pay.new.self.nested refl
     (ap (λ (b : Budget). b.nested) c.pay.ensures.left)) (c.place_by_subtable.ensures.exact plain plain steps))
@@ -179,8 +180,8 @@ place_by_context-returns-in_err-fit-clause-exact g t c = λ plain steps.
       found = None;
       places = q.places.items;
       reach = q.reach;
-      decided = decided_read list (visit_of turn) c.over_context-around.result _ c.info.result.now s.input q.places.items None
-          c.fit_at-fit.result c.over_context-around.ensures c.info.ensures c.in_err-fit.was (c.fit_at-fit.ensures.decided steps);
+      decided = decided_read list (visit_of turn) c.args.task.now.applied.now.context _ c.info.result.now s.input q.places.items None
+          c.fit_at-fit.result c.args.task.now.made.context c.info.ensures c.in_err-fit.was (c.fit_at-fit.ensures.decided steps);
       made = ap (outcome (text_of b c.args.last.now q.budget.nested)) c.from_residual.ensures
           ∙ ap (λ (x : Text). outcome x None)
           (text_of-same (looked_at turn.place q.reach s) b c.args.last.now left q.budget.nested
@@ -193,7 +194,7 @@ place_by_context-returns-clause-exact g t c = λ plain steps.
     let task = c.args.task.now in
     let setting = task.setting.now in
     let list = setting.list.now in
-    let a = applied list task.lookup.now task.options.now setting.instance in
+    let a = applied list task.applied.now.lookup.now task.options.now setting.instance in
     let turn = c.args.context.now in
     let s = c.args.buffer.now in
     let last = c.args.last.now in
@@ -217,8 +218,8 @@ place_by_context-returns-clause-exact g t c = λ plain steps.
       found = Some fit;
       places = places;
       reach = q.reach;
-      decided = decided_read list (visit_of turn) c.over_context-around.result _ c.info.result.now s.input places (Some fit)
-          c.fit_at-fit.result c.over_context-around.ensures c.info.ensures c.in_ok-fit.was (c.fit_at-fit.ensures.decided before);
+      decided = decided_read list (visit_of turn) c.args.task.now.applied.now.context _ c.info.result.now s.input places (Some fit)
+          c.fit_at-fit.result c.args.task.now.made.context c.info.ensures c.in_ok-fit.was (c.fit_at-fit.ensures.decided before);
       made = fit_done applies list.lookups.items turn.place places fit old mid c.mark_concat-2.new.buffer c.saturating_add-end.result
           c.saturating_add-2.result
           (records_at applies list.lookups.items turn.place places fit task.place c.replace-places.result.items
@@ -235,7 +236,7 @@ pub apply_records-loop-index-init : goal.apply_records-loop-index-init
 apply_records-loop-index-init g t c =
     let task = c.args.task.now in
     let setting = task.setting.now in
-    let a = applied setting.list.now task.lookup.now task.options.now setting.instance in
+    let a = applied setting.list.now task.applied.now.lookup.now task.options.now setting.instance in
     record {
       kept = kept_none _ c.requires.placed;
       spent = (omega arith, omega arith);
@@ -249,7 +250,7 @@ pub apply_records-returns-clause-exact : goal.apply_records-returns-clause-exact
 apply_records-returns-clause-exact g t c = λ plain steps.
     let task = c.args.task.now in
     let setting = task.setting.now in
-    let a = applied setting.list.now task.lookup.now task.options.now setting.instance in
+    let a = applied setting.list.now task.applied.now.lookup.now task.options.now setting.instance in
     let fit = c.args.fit.now in
     let e : c.loop-index.index ≡ fit.record_count = omega arith in
     subst
@@ -262,7 +263,7 @@ pub apply_records-loop-index-preserved : goal.apply_records-loop-index-preserved
 apply_records-loop-index-preserved g t c =
     let task = c.args.task.now in
     let setting = task.setting.now in
-    let a = applied setting.list.now task.lookup.now task.options.now setting.instance in
+    let a = applied setting.list.now task.applied.now.lookup.now task.options.now setting.instance in
     let lookups = setting.list.now.lookups.items in
     let records = c.args.fit.now.records.now in
     let places = c.args.places.now.items in
@@ -271,10 +272,13 @@ apply_records-loop-index-preserved g t c =
     let does = record_done (nested task.depth a) lookups records task.place places in
     let old = text_of c.args.buffer.now c.args.last.now c.args.search.now.budget.nested in
     let mid = text_of c.loop-index.buffer c.loop-index.last p.budget.nested in
-    elim c.match-nested_task.branch [
+    elim c.match-nested_lookup.branch [
       | apply_records-in-Some+else-task-eq0+else-not-nest w ↦
-          let n = w.in-Some.nested in
-          let b = applied n.setting.now.list.now n.lookup.now n.options.now n.setting.now.instance in
+          let lookup = w.new-applied.result.lookup.now in
+          let place = w.in-Some.place in
+          let b = applied setting.list.now lookup task.options.now setting.instance in
+          let is : named lookups records task.place places k ≡ Some (target lookup place) =
+          w.in-Some.ensures.some ∙ ap (λ (l : Lookup). Some (target l place)) (sym w.new-applied.ensures.lookup) in
           let call = w.place_by_lookup-next in
           let end = text_of call.new.buffer call.new.last call.new.search.budget.nested in
           rw (w.buffer-is, w.last-is, w.search-is)
@@ -286,14 +290,11 @@ apply_records-loop-index-preserved g t c =
             );
             exact = λ plain steps.
                 let before : 0 < p.budget.steps = omega (arith, steps, w.nest.ensures.spent.1, call.ensures.spent.1) in
-                let own : HasNoPixels n.setting.now.instance =
-                subst (λ (x : Applied). HasNoPixels x.instance) (sym w.in-Some.ensures.same) plain in
                 done_next does k old mid end (c.loop-index.invariant.exact plain before)
-                (record_tried a task.depth lookups records task.place places k n.lookup.now n.place n.depth b mid
-                (text_of c.loop-index.buffer c.loop-index.last w.nest.new.self.nested) (outcome end call.result)
-                w.in-Some.ensures.some w.in-Some.ensures.depth w.in-Some.ensures.same
+                (record_tried a task.depth lookups records task.place places k lookup place (task.depth - 1) b mid
+                (text_of c.loop-index.buffer c.loop-index.last w.nest.new.self.nested) (outcome end call.result) is refl refl
                 (ap (λ (x : Budget). text_of c.loop-index.buffer c.loop-index.last x.nested) w.nest.ensures.left)
-                (omega (arith, w.if-task-eq0.false)) (w.nest.ensures.paid.0 w.if-not-nest.false) (call.ensures.exact own steps));
+                (omega (arith, w.if-task-eq0.false)) (w.nest.ensures.paid.0 w.if-not-nest.false) (call.ensures.exact plain steps));
           })
       | apply_records-in_default w ↦
           rw (w.buffer-is, w.last-is, w.search-is)
@@ -303,8 +304,8 @@ apply_records-loop-index-preserved g t c =
             exact = λ plain steps.
                 done_next does k old mid mid (c.loop-index.invariant.exact plain steps)
                 (record_none (nested task.depth a) (named lookups records task.place places k) mid
-                (none_given c.nested_task.result (named lookups records task.place places k ≡ None) w.in_default.is
-                c.nested_task.ensures.none));
+                (none_given c.nested_lookup.result (named lookups records task.place places k ≡ None) w.in_default.is
+                c.nested_lookup.ensures.none));
           })
     ]
 
@@ -312,11 +313,11 @@ pub apply_records-returns-then-task-eq0-clause-exact : goal.apply_records-return
 apply_records-returns-then-task-eq0-clause-exact g t c = λ plain steps.
     let task = c.args.task.now in
     let setting = task.setting.now in
-    let a = applied setting.list.now task.lookup.now task.options.now setting.instance in
+    let a = applied setting.list.now task.applied.now.lookup.now task.options.now setting.instance in
     let lookups = setting.list.now.lookups.items in
     let fit = c.args.fit.now in
     let places = c.args.places.now.items in
-    let n = c.in-Some.nested in
+    let n = c.in-Some in
     let p = c.loop-index.search in
     let q = c.then-task-eq0.search in
     let s = c.loop-index.buffer in

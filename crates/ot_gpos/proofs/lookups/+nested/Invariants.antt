@@ -11,7 +11,7 @@ use Rattle.ot_gpos.proofs.lookups.+nested.Given as goal
 abbrev pub invariant-place_by_lookup-loop-subtable : goal.invariant-place_by_lookup-loop-subtable
 invariant-place_by_lookup-loop-subtable g l =
     let setting = l.task.setting.now in
-    let a = applied setting.list.now l.task.lookup.now l.task.options.now setting.instance in
+    let a = applied setting.list.now l.task.applied.now.lookup.now l.task.options.now setting.instance in
     record {
       kept : KeepsText l.fn.buffer l.buffer;
       spent : IsNotMore l.fn.search.budget l.search.budget;
@@ -26,7 +26,7 @@ invariant-place_by_lookup-loop-subtable g l =
 abbrev pub invariant-apply_records-loop-index : goal.invariant-apply_records-loop-index
 invariant-apply_records-loop-index g l =
     let setting = l.task.setting.now in
-    let a = applied setting.list.now l.task.lookup.now l.task.options.now setting.instance in
+    let a = applied setting.list.now l.task.applied.now.lookup.now l.task.options.now setting.instance in
     record {
       kept : KeepsText l.fn.buffer l.buffer;
       spent : IsNotMore l.fn.search.budget l.search.budget;

@@ -8,6 +8,7 @@ use Rattle.ot_lookups.specs.declared.lookup_list.Lookup.{Lookup}
 use Rattle.ot_attachments.proofs.KeptLemmas.{kept_none, kept_then}
 use Rattle.ot_gpos.specs.Attachments.{nothing_sought}
 use Rattle.ot_gpos.specs.Lookups.{applied, outcome, text_of}
+use Rattle.ot_gpos.specs.Nested.{IsTried}
 use Rattle.ot_gpos.specs.Runs.{IsPositioned, IsPositionedBy}
 use Rattle.ot_gpos.specs.declared.marks.LastBase.{LastBase}
 use Rattle.ot_gpos.proofs.RunsLemmas.{IsUnderWay, len_closed, same_length, under_way-end, under_way-first, under_way-next}
@@ -76,7 +77,9 @@ loop-turn-preserved g c =
           under_way-next a old c.loop-turn.next place c.max-next.result mid gs o
           (c.loop-turn.invariant.exact plain before) same c.info.ensures c.next_place-place.ensures.from within
           c.next_place-place.ensures.passed (c.next_place-place.ensures.at within)
-          (c.place_by_lookup.ensures.exact plain steps)
+          (subst
+          (λ (l : Lookup). IsTried 64 (applied c.args.setting.now.list.now l c.args.options.now c.args.setting.now.instance) place mid o)
+          c.new-applied.ensures.lookup (c.place_by_lookup.ensures.exact plain steps))
           (c.max-next.ensures ∙ ap (λ (n : ℕ). max n (place + 1)) c.unwrap_or.ensures);
     }
 

@@ -1,4 +1,4 @@
-use Rattle.std.proofs.Common.{◌≡◌, ◌-◌, true, false, Ok, ap, arith, refl, subst, sym, ◌∙◌}
+use Rattle.std.proofs.Common.{◌≡◌, ◌-◌, true, false, None, Some, Ok, ap, arith, length, refl, subst, sym, ◌∙◌}
 use Rattle.std.proofs.lemmas.Option.{slice_get_within}
 use Rattle.std.specs.Option.{option_copied}
 use Rattle.ot_layout.specs.declared.budget.Budget.{Budget}
@@ -15,7 +15,7 @@ use Rattle.ot_gsub.specs.declared.nested.Turn.TheVariants.{On, Refused}
 use Rattle.ot_gsub.specs.declared.substitution.Progress.{Progress}
 use Rattle.ot_gsub.proofs.ChangesLemmas.{glyph_numbers-mark_reach}
 use Rattle.ot_gsub.proofs.NestedLemmas.{Leads, along, done_by, done_refused, fit_ended, left_cut, left_enough, left_next, left_none, lookahead_len-opened, left_refused, none_left}
-use Rattle.ot_gsub.proofs.TurnLemmas.{ends_by_choose, nested-at_end, nested-given_up, nested-not_there, nested_by_turn, turn_applied, turn_err, turn_refused}
+use Rattle.ot_gsub.proofs.TurnLemmas.{decided_by, ends_by_choose, nested-at_end, nested-given_up, nested-not_there, nested_by_turn, turn_applied, turn_err, turn_passed, turn_refused}
 use Rattle.ot_gsub.proofs.nested.+nested.Goals as goal
 use Rattle.ot_gsub.proofs.nested.+nested.Goals.{apply_fit-else-loop-index-test, apply_fit-then-loop-index-test+in_default, apply_fit-then-loop-index-test+in-Some+in_ok-apply_record+in-Enough}
 use Rattle.ot_gsub.proofs.nested.+nested.Goals.{apply_other-then-depth-eq0-via-then-depth-eq0, apply_other-then-depth-eq0-via-else-depth-eq0+then-not-nest}
@@ -23,30 +23,60 @@ use Rattle.ot_gsub.proofs.nested.+nested.Goals.{apply_other-then-depth-eq0-via-t
 pub apply_at-returns-in_default-clause-numbers : goal.apply_at-returns-in_default-clause-numbers
 apply_at-returns-in_default-clause-numbers t c = λ is.
     ap glyph_numbers c.mark_reach.ensures.is
-    ∙ glyph_numbers-mark_reach c.decide-edit.new.progress.search.reach c.args.buffer.now
+    ∙ glyph_numbers-mark_reach c.edit_at-edit.new.search.reach c.args.buffer.now
+
+pub apply_at-edit_at-edit-requires : goal.apply_at-edit_at-edit-requires
+apply_at-edit_at-edit-requires t c = omega (arith, c.requires.glyph, ap length c.apply_context-ctx.ensures.input)
+
+pub apply_at-returns-in_default-clause-turn : goal.apply_at-returns-in_default-clause-turn
+apply_at-returns-in_default-clause-turn t c = λ steps.
+    let p = c.args.progress.now in
+    let q : Progress = record p { search = c.edit_at-edit.new.search } in
+    let s = c.args.buffer.now in
+    let subs = c.args.substitutions.now in
+    let lookup = c.args.applied.now.lookup.now in
+    let decided = decided_by c.args.depth subs lookup p q s c.apply_context-ctx.result c.edit_at-edit.result None
+    c.apply_context-ctx.ensures (c.edit_at-edit.ensures.first steps) c.in_default.is in
+    turn_passed c.args.depth subs lookup p q s q.search.reach c.mark_reach.new.buffer decided c.mark_reach.ensures.is refl
+    c.edit_at-edit.ensures.spent.0
 
 pub apply_at-returns-in_err-make-clause-turn : goal.apply_at-returns-in_err-make-clause-turn
 apply_at-returns-in_err-make-clause-turn t c = λ steps.
-    turn_err c.args.depth c.args.substitutions.now c.args.lookup.now c.args.progress.now c.decide-edit.new.progress c.args.buffer.now
-    c.in-Some.edit c.decide-edit.new.progress.search.reach c.mark_reach.new.buffer c.make.new.buffer c.make.new.progress c.make.result
-    (c.in-Some.ensures.decided (omega (arith, steps, c.make.ensures.spent.1))) c.mark_reach.ensures.is
-    c.decide-edit.ensures.same_random c.decide-edit.ensures.spent.0 (c.make.ensures.edited steps)
+    let p = c.args.progress.now in
+    let q : Progress = record p { search = c.edit_at-edit.new.search } in
+    let s = c.args.buffer.now in
+    let subs = c.args.substitutions.now in
+    let lookup = c.args.applied.now.lookup.now in
+    let decided = decided_by c.args.depth subs lookup p q s c.apply_context-ctx.result c.edit_at-edit.result (Some c.in-Some.edit)
+    c.apply_context-ctx.ensures (c.edit_at-edit.ensures.first (omega (arith, steps, c.make.ensures.spent.1))) c.in-Some.is in
+    turn_err c.args.depth subs lookup p q s c.in-Some.edit q.search.reach c.mark_reach.new.buffer c.make.new.buffer c.make.new.progress
+    c.make.result decided c.mark_reach.ensures.is refl c.edit_at-edit.ensures.spent.0 (c.make.ensures.edited steps)
     c.in_err-make.field-0.0 c.from_residual.result _ c.in_err-make.was c.from_residual.ensures.0
 
 pub apply_at-returns-then-not-branch-clause-turn : goal.apply_at-returns-then-not-branch-clause-turn
 apply_at-returns-then-not-branch-clause-turn t c = λ steps.
-    turn_refused c.args.depth c.args.substitutions.now c.args.lookup.now c.args.progress.now c.decide-edit.new.progress c.args.buffer.now
-    c.in-Some.edit c.decide-edit.new.progress.search.reach c.mark_reach.new.buffer c.make.new.buffer c.make.new.progress c.make.result
-    (c.in-Some.ensures.decided (omega (arith, steps, c.make.ensures.spent.1))) c.mark_reach.ensures.is
-    c.decide-edit.ensures.same_random c.decide-edit.ensures.spent.0 (c.make.ensures.edited steps)
+    let p = c.args.progress.now in
+    let q : Progress = record p { search = c.edit_at-edit.new.search } in
+    let s = c.args.buffer.now in
+    let subs = c.args.substitutions.now in
+    let lookup = c.args.applied.now.lookup.now in
+    let decided = decided_by c.args.depth subs lookup p q s c.apply_context-ctx.result c.edit_at-edit.result (Some c.in-Some.edit)
+    c.apply_context-ctx.ensures (c.edit_at-edit.ensures.first (omega (arith, steps, c.make.ensures.spent.1))) c.in-Some.is in
+    turn_refused c.args.depth subs lookup p q s c.in-Some.edit q.search.reach c.mark_reach.new.buffer c.make.new.buffer c.make.new.progress
+    c.make.result decided c.mark_reach.ensures.is refl c.edit_at-edit.ensures.spent.0 (c.make.ensures.edited steps)
     (c.in_ok-make.was ∙ ap (λ b. Ok b) c.if-not-branch.true)
 
 pub apply_at-returns-clause-turn : goal.apply_at-returns-clause-turn
 apply_at-returns-clause-turn t c = λ steps.
-    turn_applied c.args.depth c.args.substitutions.now c.args.lookup.now c.args.progress.now c.decide-edit.new.progress c.args.buffer.now
-    c.in-Some.edit c.decide-edit.new.progress.search.reach c.mark_reach.new.buffer c.make.new.buffer c.make.new.progress c.make.result
-    (c.in-Some.ensures.decided (omega (arith, steps, c.make.ensures.spent.1))) c.mark_reach.ensures.is
-    c.decide-edit.ensures.same_random c.decide-edit.ensures.spent.0 (c.make.ensures.edited steps)
+    let p = c.args.progress.now in
+    let q : Progress = record p { search = c.edit_at-edit.new.search } in
+    let s = c.args.buffer.now in
+    let subs = c.args.substitutions.now in
+    let lookup = c.args.applied.now.lookup.now in
+    let decided = decided_by c.args.depth subs lookup p q s c.apply_context-ctx.result c.edit_at-edit.result (Some c.in-Some.edit)
+    c.apply_context-ctx.ensures (c.edit_at-edit.ensures.first (omega (arith, steps, c.make.ensures.spent.1))) c.in-Some.is in
+    turn_applied c.args.depth subs lookup p q s c.in-Some.edit q.search.reach c.mark_reach.new.buffer c.make.new.buffer c.make.new.progress
+    c.make.result decided c.mark_reach.ensures.is refl c.edit_at-edit.ensures.spent.0 (c.make.ensures.edited steps)
     c.rest_beyond-rest.result c.mark_beyond.new.buffer
     (c.in_ok-make.was ∙ ap (λ b. Ok b) c.if-not-branch.false) c.rest_beyond-rest.ensures c.mark_beyond.ensures.is
 
@@ -91,10 +121,10 @@ apply_other-returns-then-lookahead_len-eq0-clause-applied t c = λ steps.
 pub apply_other-returns-in-Some-clause-applied : goal.apply_other-returns-in-Some-clause-applied
 apply_other-returns-in-Some-clause-applied t c = λ steps.
     let old = now_of c.args.buffer.now c.args.progress.now in
-    nested_by_turn c.args.substitutions.now c.args.index c.args.depth c.in-Some.lookup.now old _ c.apply_at.result _
+    nested_by_turn c.args.substitutions.now c.args.index c.args.depth c.new-applied.result.lookup.now old _ c.apply_at.result _
     (omega (arith, c.if-depth-eq0.false)) (c.nest.ensures.paid.0 c.if-not-nest.false)
     (omega (arith, c.if-lookahead_len-eq0.false, c.lookahead_len.ensures, lookahead_len-opened c.args.buffer.now c.requires))
-    (sym c.lookup.ensures ∙ ap option_copied c.in-Some.is)
+    (sym c.lookup.ensures ∙ ap option_copied c.in-Some.is ∙ ap (λ l. Some l) (sym c.new-applied.ensures.lookup))
     (ap (λ k. record old { left = k }) (ap (λ (b : Budget). b.nested) c.nest.ensures.left)) (c.apply_at.ensures.turn steps)
 
 pub apply_other-returns-in-None-clause-applied : goal.apply_other-returns-in-None-clause-applied

@@ -1,7 +1,10 @@
-use Rattle.std.proofs.Common.{Ok, Bool, false, ap, sym, subst, refl, ◌∙◌}
+use Rattle.std.proofs.Common.{◌≡◌, Ok, Bool, true, false, ap, length, sym, subst, refl, ◌∙◌}
 use Rattle.shaping_buffer.specs.State.{State}
 use Rattle.shaping_buffer.specs.Step.{Meets, sync}
+use Rattle.ot_lookups.specs.declared.lookup_list.Lookup.{Lookup}
 use Rattle.ot_gsub.specs.Nested.{now_of}
+use Rattle.ot_gsub.specs.Runs.{IsRestDone}
+use Rattle.ot_gsub.specs.Singles.{IsForNext, IsLevel, IsSingle, moved, substituted}
 use Rattle.ot_gsub.proofs.ChangesLemmas.{error_is_no_answer, glyph_numbers-opened_at, glyph_numbers-sync, tells_passed, tells_then}
 use Rattle.ot_gsub.proofs.ForwardLemmas.{forward_ended, forward_failed, forward_refused}
 use Rattle.ot_gsub.proofs.SinglesLemmas.{err_is_no_answer, false_is_no_answer, rest_moved, synced}
@@ -9,24 +12,42 @@ use Rattle.ot_gsub.proofs.substitution.substitute_forward.Goals as goal
 
 pub returns-in_err-substitute_rest-clause-singles : goal.returns-in_err-substitute_rest-clause-singles
 returns-in_err-substitute_rest-clause-singles c = λ steps good single.
+    let subs = c.args.substitutions.now in
+    let b = c.open_at.new.buffer in
+    let singles = subst
+    (λ (l : Lookup). IsSingle subs l b → IsLevel b → IsForNext subs l b → (c.substitute_rest.result ≡ Ok true)
+    × (c.substitute_rest.new.buffer ≡ moved (substituted subs l) (length b.input) b))
+    c.new-applied.ensures.lookup (c.substitute_rest.ensures.singles steps) in
     let done = rest_moved c.args.substitutions.now c.args.lookup.now c.args.first c.args.buffer.now c.open_at.new.buffer
     c.substitute_rest.result c.substitute_rest.new.buffer c.open_at.ensures.opened.1 c.requires.closed c.len.ensures.within
-    c.requires.first c.requires.at single (c.substitute_rest.ensures.singles steps) in
+    c.requires.first c.requires.at single singles in
     absurd (err_is_no_answer c.substitute_rest.result _ done.0 c.in_err-substitute_rest.was)
 
 pub returns-then-not-branch-2-clause-singles : goal.returns-then-not-branch-2-clause-singles
 returns-then-not-branch-2-clause-singles c = λ steps good single.
+    let subs = c.args.substitutions.now in
+    let b = c.open_at.new.buffer in
+    let singles = subst
+    (λ (l : Lookup). IsSingle subs l b → IsLevel b → IsForNext subs l b → (c.substitute_rest.result ≡ Ok true)
+    × (c.substitute_rest.new.buffer ≡ moved (substituted subs l) (length b.input) b))
+    c.new-applied.ensures.lookup (c.substitute_rest.ensures.singles steps) in
     let done = rest_moved c.args.substitutions.now c.args.lookup.now c.args.first c.args.buffer.now c.open_at.new.buffer
     c.substitute_rest.result c.substitute_rest.new.buffer c.open_at.ensures.opened.1 c.requires.closed c.len.ensures.within
-    c.requires.first c.requires.at single (c.substitute_rest.ensures.singles steps) in
+    c.requires.first c.requires.at single singles in
     absurd (false_is_no_answer c.substitute_rest.result done.0
     (c.in_ok-substitute_rest.was ∙ ap (λ (x : Bool). Ok x) c.if-not-branch-2.true))
 
 pub returns-clause-singles : goal.returns-clause-singles
 returns-clause-singles c = λ steps good single.
+    let subs = c.args.substitutions.now in
+    let b = c.open_at.new.buffer in
+    let singles = subst
+    (λ (l : Lookup). IsSingle subs l b → IsLevel b → IsForNext subs l b → (c.substitute_rest.result ≡ Ok true)
+    × (c.substitute_rest.new.buffer ≡ moved (substituted subs l) (length b.input) b))
+    c.new-applied.ensures.lookup (c.substitute_rest.ensures.singles steps) in
     let done = rest_moved c.args.substitutions.now c.args.lookup.now c.args.first c.args.buffer.now c.open_at.new.buffer
     c.substitute_rest.result c.substitute_rest.new.buffer c.open_at.ensures.opened.1 c.requires.closed c.len.ensures.within
-    c.requires.first c.requires.at single (c.substitute_rest.ensures.singles steps) in
+    c.requires.first c.requires.at single singles in
     let end = c.fail_if_spent.ensures.same steps ∙ done.1 in
     synced c.args.substitutions.now c.args.lookup.now c.args.first c.args.buffer.now c.fail_if_spent.new.buffer c.sync.new.self
     c.sync.result c.requires.passed c.requires.closed
@@ -37,26 +58,41 @@ returns-clause-singles c = λ steps good single.
 pub returns-in_err-substitute_rest-clause-run : goal.returns-in_err-substitute_rest-clause-run
 returns-in_err-substitute_rest-clause-run c = λ steps.
     let end = now_of c.substitute_rest.new.buffer c.substitute_rest.new.progress in
+    let subs = c.args.substitutions.now in
+    let b = c.open_at.new.buffer in
+    let rest = subst
+    (λ (l : Lookup). IsForNext subs l b → IsRestDone subs l (now_of b c.args.progress.now) c.substitute_rest.result end)
+    c.new-applied.ensures.lookup (c.substitute_rest.ensures.rest steps) in
     forward_failed c.args.substitutions.now c.args.lookup.now (now_of c.args.buffer.now c.args.progress.now) c.args.first
     c.open_at.new.buffer c.open_at.ensures.opened.1 c.requires.closed c.len.ensures.within c.requires.first c.requires.passed
-    c.requires.at c.substitute_rest.result end (c.substitute_rest.ensures.rest steps) _
+    c.requires.at c.substitute_rest.result end rest _
     c.from_residual-in_err-substitute_rest.result end c.in_err-substitute_rest.was
     c.from_residual-in_err-substitute_rest.ensures.0
 
 pub returns-then-not-branch-2-clause-run : goal.returns-then-not-branch-2-clause-run
 returns-then-not-branch-2-clause-run c = λ steps.
     let end = now_of c.substitute_rest.new.buffer c.substitute_rest.new.progress in
+    let subs = c.args.substitutions.now in
+    let b = c.open_at.new.buffer in
+    let rest = subst
+    (λ (l : Lookup). IsForNext subs l b → IsRestDone subs l (now_of b c.args.progress.now) c.substitute_rest.result end)
+    c.new-applied.ensures.lookup (c.substitute_rest.ensures.rest steps) in
     forward_refused c.args.substitutions.now c.args.lookup.now (now_of c.args.buffer.now c.args.progress.now) c.args.first
     c.open_at.new.buffer c.open_at.ensures.opened.1 c.requires.closed c.len.ensures.within c.requires.first c.requires.passed
-    c.requires.at c.substitute_rest.result end (c.substitute_rest.ensures.rest steps) end
+    c.requires.at c.substitute_rest.result end rest end
     (c.in_ok-substitute_rest.was ∙ ap (λ (x : Bool). Ok x) c.if-not-branch-2.true)
 
 pub returns-clause-run : goal.returns-clause-run
 returns-clause-run c = λ steps.
     let end = now_of c.substitute_rest.new.buffer c.substitute_rest.new.progress in
+    let subs = c.args.substitutions.now in
+    let b = c.open_at.new.buffer in
+    let rest = subst
+    (λ (l : Lookup). IsForNext subs l b → IsRestDone subs l (now_of b c.args.progress.now) c.substitute_rest.result end)
+    c.new-applied.ensures.lookup (c.substitute_rest.ensures.rest steps) in
     forward_ended c.args.substitutions.now c.args.lookup.now (now_of c.args.buffer.now c.args.progress.now) c.args.first
     c.open_at.new.buffer c.open_at.ensures.opened.1 c.requires.closed c.len.ensures.within c.requires.first c.requires.passed
-    c.requires.at c.substitute_rest.result end (c.substitute_rest.ensures.rest steps) c.sync.result
+    c.requires.at c.substitute_rest.result end rest c.sync.result
     (now_of c.sync.new.self c.substitute_rest.new.progress)
     (c.in_ok-substitute_rest.was ∙ ap (λ (x : Bool). Ok x) c.if-not-branch-2.false)
     (subst (λ (t : State). Meets (sync t) t c.sync.result c.sync.new.self) (c.fail_if_spent.ensures.same steps)

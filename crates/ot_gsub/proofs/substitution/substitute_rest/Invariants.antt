@@ -13,8 +13,8 @@ invariant-loop-turn l = record {
   keeps : KeepsClusters l.fn.buffer l.buffer;
   spent : IsNotMore l.fn.progress.search.budget l.progress.search.budget;
   tells : TellsChanges l.fn.buffer l.fn.progress.has_changed l.buffer l.progress.has_changed;
-  moves : 0 < l.progress.search.budget.steps → IsSingle l.substitutions l.lookup l.fn.buffer → IsLevel l.fn.buffer
-      → IsForNext l.substitutions l.lookup l.fn.buffer → HasMoved l.substitutions l.lookup l._turn l.fn.buffer l.buffer;
-  done : 0 < l.progress.search.budget.steps → IsForNext l.substitutions l.lookup l.fn.buffer
-      → HasDone l.substitutions l.lookup l._turn (now_of l.fn.buffer l.fn.progress) (now_of l.buffer l.progress);
+  moves : 0 < l.progress.search.budget.steps → IsSingle l.substitutions l.applied.lookup.now l.fn.buffer → IsLevel l.fn.buffer
+      → IsForNext l.substitutions l.applied.lookup.now l.fn.buffer → HasMoved l.substitutions l.applied.lookup.now l._turn l.fn.buffer l.buffer;
+  done : 0 < l.progress.search.budget.steps → IsForNext l.substitutions l.applied.lookup.now l.fn.buffer
+      → HasDone l.substitutions l.applied.lookup.now l._turn (now_of l.fn.buffer l.fn.progress) (now_of l.buffer l.progress);
 }
