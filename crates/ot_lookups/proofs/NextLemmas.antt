@@ -4,7 +4,7 @@ use Rattle.std.proofs.lemmas.Grind.{common_steps}
 use Rattle.std.proofs.lemmas.Option.{slice_get_read}
 use Rattle.std.proofs.lemmas.List.Elements.{All-push, All-weaker}
 use Rattle.font_tables.specs.declared.coverage.Coverage.{Coverage}
-use Rattle.std.specs.Prelude.{IfSome, is_some}
+use Rattle.std.specs.Prelude.{IfSome}
 use Rattle.ot_lookups.specs.SubtableKinds.{is_chained}
 use Rattle.ot_lookups.specs.NextAsked.{IsNextAt, IsNextOf, lookahead_number, backtrack_number, input_number}
 use Rattle.ot_lookups.specs.declared.subtable.NextAsked.{NextAsked}
