@@ -122,10 +122,12 @@ class Clauses:
             return f"{end}.unwrap_or({name}.len()).min({name}.len())", "number"
         if word == "IsSome":
             return self.positions(self.step()), "bool"
-        if word == "HasPositions":
+        if word in ("HasPositions", "HasCurrent"):
             name, rest, kind = self.root(self.step())
             if rest or kind != "hb_buffer_t":
                 raise Unknown
+            if word == "HasCurrent":
+                return f"{name}.have_output() && !{name}.info().is_empty()", "bools"
             return f"!{name}.have_output() && {name}.have_positions()", "bools"
         if word == "IsScalar":
             value, kind = self.value(self.step())

@@ -221,6 +221,7 @@ class Tests(unittest.TestCase):
             ("IsSome self.old.positions", "self.have_positions()"),
             ("self.old.positions ≡ None", "!self.have_positions()"),
             ("HasPositions self.old", "!self.have_output() && self.have_positions()"),
+            ("HasCurrent self.old", "self.have_output() && !self.info().is_empty()"),
             ("n ≤ step.last_place self.old", "n <= self.backtrack_len() + self.lookahead_len()"),
             ("AreCharacters self.old.input", "self.info().iter().all(|glyph| char::from_u32(glyph.glyph_id).is_some())"),
         ):

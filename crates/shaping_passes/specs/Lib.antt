@@ -6,3 +6,4 @@ pub mod Seams
 pub mod Ignorables
 pub mod Lines
 pub mod Refusals
+pub mod Left

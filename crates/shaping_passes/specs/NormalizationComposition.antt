@@ -110,3 +110,11 @@ kept_one s = record s { out = s.out ++ take 1 s.input; input = drop 1 s.input; i
 abbrev pub IsPlace : Option ℕ → State → Type 0
 IsPlace None s = Unit {0}
 IsPlace (Some at) s = at < length s.out
+
+-- a glyph is left to be read, behind a starter at this place
+abbrev pub IsAtTurn : Option ℕ → State → Type 0
+IsAtTurn starter s = record {
+  ready : IsReady s;
+  some : 0 < length s.input;
+  place : IsPlace starter s;
+}
