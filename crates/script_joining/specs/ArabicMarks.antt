@@ -10,8 +10,9 @@ use Rattle.rb_glyph.specs.declared.info.hb_glyph_info_t.{hb_glyph_info_t}
 use Rattle.rb_glyph.specs.declared.position.GlyphPosition.{GlyphPosition}
 use Rattle.rb_glyph.specs.declared.scratch.TheConstants.{HB_BUFFER_SCRATCH_FLAG_SHAPER0}
 use Rattle.glyph_lists.specs.Parts.{map_range}
-use Rattle.shaping_buffer.specs.State.{State, len}
+use Rattle.shaping_buffer.specs.State.{HasPositions, State, len}
 use Rattle.shaping_buffer.specs.ClusterStep.{merge_clusters}
+use Rattle.shaping_buffer.specs.KeepsClusters.{KeepsClusters}
 use Rattle.script_items.specs.Item.{shaper_byte, with_shaper_byte}
 use Rattle.script_items.specs.Marks.{category, kept_class, with_class}
 use Rattle.script_items.specs.Moves.{moved}
@@ -125,3 +126,10 @@ piece_places is_right_to_left width offset =
 -- how far the line goes on over glyphs
 abbrev pub width_of : List GlyphPosition → ℤ
 width_of ps = fold (λ sum p. int_wrapping_add w64 sum p.x_advance) (pos 0) ps
+
+-- glyphs keep their clusters while marks are stretched, and still have positions
+abbrev pub StaysPlaced : State → State → Type 0
+StaysPlaced old new = record {
+  placed : HasPositions new;
+  keeps : KeepsClusters old new;
+}

@@ -1,13 +1,14 @@
 //! Forms and ligatures of Arabic letters in a font that has them as characters and has no features for them: HarfBuzz's
 //! `arabic_fallback_plan_t`, as the bytes of a table `GSUB`.
 
-ghost use Rattle.std.specs.Prelude.{◌≡◌, ◌≢◌, ◌≤◌, ◌+◌, All, length, IfOk, OnOk};
+ghost use Rattle.std.specs.Prelude.{◌≡◌, ◌≢◌, ◌≤◌, All, length, IfOk};
+ghost use Rattle.script_joining.specs.ArabicFallback.{AddsMask};
 
 use crate::arabic::lookup_bytes::{LigatureRow, ligature_lookup, single_lookup, table_of};
 use crate::arabic::presentation_rows::{
     LETTERS, LIGATURES_OF_MARKS, LIGATURES_OF_THREE, LIGATURES_OF_TWO,
 };
-use crate::joining::form::ArabicAction;
+use crate::joining::form::ArabicAction::{self, Fina, Init, Isol, Medi};
 use script_items::font::FontGlyphs;
 use std::alloc::{AllocError, Global};
 
@@ -15,12 +16,7 @@ use std::alloc::{AllocError, Global};
 const IGNORE_MARKS: u16 = 8;
 
 /// The forms of letters, in the order of their lookups and of the columns of the rows.
-const FORMS: [ArabicAction; 4] = [
-    ArabicAction::Init,
-    ArabicAction::Medi,
-    ArabicAction::Fina,
-    ArabicAction::Isol,
-];
+const FORMS: [ArabicAction; 4] = [Init, Medi, Fina, Isol];
 
 /// Lookups that are made from the characters of a font.
 #[derive(Drop)]
@@ -40,9 +36,9 @@ struct Collected {
 }
 
 impl FallbackLookups {
-    /// The lookups of a font that has no forms of Arabic letters, for the masks of the forms, by their numbers, and of `rlig`: the initial, medial, final and isolated forms, and then ligatures of
-    /// three letters, of two and of marks. There are none where the font has no such characters, and none for glyphs of no mask.
-    /// `Err(AllocError)` where memory runs out.
+    /// The lookups of a font that has no forms of Arabic letters, for the masks of the forms, by their numbers, and of `rlig`: the
+    /// initial, medial, final and isolated forms, and then ligatures of three letters, of two and of marks. There are none where the
+    /// font has no such characters, and none for glyphs of no mask. `Err(AllocError)` where memory runs out.
     pub fn new<F: FontGlyphs>(
         alloc: Global,
         font: &F,
@@ -76,9 +72,7 @@ impl FallbackLookups {
 impl Collected {
     /// Adds a lookup, where there is one and a glyph may have its mask.
     fn add(&mut self, lookup: Option<Vec<u8>>, mask: u32) -> Result<(), AllocError>
-        ensures few { OnOk result (length self.new.masks.items ≤ length self.old.masks.items + 1) }
-        ensures masks { OnOk result (All (λ mask. mask ≢ 0) self.old.masks.items
-            → All (λ mask. mask ≢ 0) self.new.masks.items) }
+        ensures { AddsMask result self.old.masks.items self.new.masks.items }
     {
         if let Some(lookup) = lookup
             && mask != 0
@@ -96,9 +90,7 @@ impl Collected {
         column: usize,
         mask: u32,
     ) -> Result<(), AllocError>
-        ensures few { OnOk result (length self.new.masks.items ≤ length self.old.masks.items + 1) }
-        ensures masks { OnOk result (All (λ mask. mask ≢ 0) self.old.masks.items
-            → All (λ mask. mask ≢ 0) self.new.masks.items) }
+        ensures { AddsMask result self.old.masks.items self.new.masks.items }
     {
         let mut pairs = Vec::new(self.alloc);
         for (letter, forms) in LETTERS.iter() {
@@ -118,9 +110,7 @@ impl Collected {
 
     /// Adds the lookup of ligatures of three letters.
     fn add_three<F: FontGlyphs>(&mut self, font: &F, mask: u32) -> Result<(), AllocError>
-        ensures few { OnOk result (length self.new.masks.items ≤ length self.old.masks.items + 1) }
-        ensures masks { OnOk result (All (λ mask. mask ≢ 0) self.old.masks.items
-            → All (λ mask. mask ≢ 0) self.new.masks.items) }
+        ensures { AddsMask result self.old.masks.items self.new.masks.items }
     {
         let mut rows = Vec::new(self.alloc);
         for (parts, ligature) in LIGATURES_OF_THREE.iter() {
@@ -141,9 +131,7 @@ impl Collected {
         flag: u16,
         mask: u32,
     ) -> Result<(), AllocError>
-        ensures few { OnOk result (length self.new.masks.items ≤ length self.old.masks.items + 1) }
-        ensures masks { OnOk result (All (λ mask. mask ≢ 0) self.old.masks.items
-            → All (λ mask. mask ≢ 0) self.new.masks.items) }
+        ensures { AddsMask result self.old.masks.items self.new.masks.items }
     {
         let mut rows = Vec::new(self.alloc);
         for (parts, ligature) in ligatures {

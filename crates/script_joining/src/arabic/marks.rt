@@ -2,8 +2,8 @@
 
 ghost use Rattle.std.specs.Prelude.{◌≡◌, ◌<◌, ◌≤◌, ◌+◌, ◌-◌, false, length, map};
 ghost use Rattle.glyph_lists.specs.Parts.{map_range};
-ghost use Rattle.shaping_buffer.specs.KeepsClusters.{KeepsClusters};
 ghost use Rattle.script_items.specs.Marks.{with_class};
+ghost use Rattle.shaping_passes.specs.Left.{StaysClosed};
 ghost use Rattle.script_joining.specs.ArabicMarks as arabic;
 
 use rb_glyph::modified_combining_class::{CCC22, CCC26};
@@ -22,8 +22,7 @@ const ABOVE: u16 = 230;
 pub fn reorder_marks(buffer: &mut hb_buffer_t, start: usize, end: usize)
     requires { buffer.old.have_output ≡ false }
     ensures is { buffer.new ≡ arabic.marks_reordered start end buffer.old }
-    ensures closed { buffer.new.have_output ≡ false }
-    ensures keeps { KeepsClusters buffer.old buffer.new }
+    ensures stays { StaysClosed buffer.old buffer.new }
 {
     if start > end || end > buffer.len() {
         return;
@@ -49,8 +48,7 @@ fn move_marks(
     ensures behind { result ≡ arabic.behind_modifiers class buffer.old.input start end }
     ensures last { result ≤ end }
     ensures length { length buffer.new.input ≡ length buffer.old.input }
-    ensures closed { buffer.new.have_output ≡ false }
-    ensures keeps { KeepsClusters buffer.old buffer.new }
+    ensures stays { StaysClosed buffer.old buffer.new }
 {
     let first = modifiers_start(buffer.info(), start, end, class);
     let last = modifiers_end(buffer.info(), first, end, class);
@@ -66,8 +64,7 @@ fn put_if_any(buffer: &mut hb_buffer_t, start: usize, first: usize, last: usize,
     requires within { last ≤ length buffer.old.input }
     ensures is { buffer.new ≡ arabic.put_if_any start first last class buffer.old }
     ensures length { length buffer.new.input ≡ length buffer.old.input }
-    ensures closed { buffer.new.have_output ≡ false }
-    ensures keeps { KeepsClusters buffer.old buffer.new }
+    ensures stays { StaysClosed buffer.old buffer.new }
 {
     if first < last {
         put_first(buffer, start, first, last, class);
@@ -83,8 +80,7 @@ fn put_first(buffer: &mut hb_buffer_t, start: usize, first: usize, last: usize, 
     requires within { last ≤ length buffer.old.input }
     ensures is { buffer.new ≡ arabic.put_first start first last class buffer.old }
     ensures length { length buffer.new.input ≡ length buffer.old.input }
-    ensures closed { buffer.new.have_output ≡ false }
-    ensures keeps { KeepsClusters buffer.old buffer.new }
+    ensures stays { StaysClosed buffer.old buffer.new }
 {
     merge(buffer, start, last);
     move_back(buffer, start, first, last);
@@ -146,8 +142,7 @@ fn set_classes(buffer: &mut hb_buffer_t, start: usize, end: usize, class: u8)
     requires within { end ≤ length buffer.old.input }
     ensures is { buffer.new ≡ record buffer.old { input = map_range (with_class class) buffer.old.input start end } }
     ensures length { length buffer.new.input ≡ length buffer.old.input }
-    ensures closed { buffer.new.have_output ≡ false }
-    ensures keeps { KeepsClusters buffer.old buffer.new }
+    ensures stays { StaysClosed buffer.old buffer.new }
 {
     set_classes_of(buffer.info_slice_mut(), start, end, class);
 }

@@ -2,9 +2,9 @@
 
 ghost use Rattle.std.specs.Prelude.{◌≡◌, ◌<◌, ◌-◌, map, false, length, slice_index_or, slice_set};
 ghost use Rattle.glyph_lists.specs.Clusters.{zero_glyph};
-ghost use Rattle.shaping_buffer.specs.KeepsClusters.{KeepsClusters};
 ghost use Rattle.script_items.specs.Item.{shaper_byte};
 ghost use Rattle.rb_glyph.specs.Categories.{category_of_char};
+ghost use Rattle.shaping_passes.specs.Left.{StaysClosed};
 ghost use Rattle.script_joining.specs.Joining.{is_transparent, with_form_behind, with_forms, selectors_formed};
 ghost use Rattle.script_joining.specs.Listed.{first_type, type_of, with_type};
 
@@ -20,8 +20,7 @@ use shaping_buffer::{hb_buffer_t, hb_glyph_info_t};
 #[tactic(auto, using(shaping_buffer::proofs::ClosedKeepsLemmas::kept))]
 pub fn join_letters(buffer: &mut hb_buffer_t)
     requires { buffer.old.have_output ≡ false }
-    ensures closed { buffer.new.have_output ≡ false }
-    ensures keeps { KeepsClusters buffer.old buffer.new }
+    ensures { StaysClosed buffer.old buffer.new }
 {
     let before = first_type(buffer.context(0)).unwrap_or(NonJoining);
     let behind = first_type(buffer.context(1));
@@ -34,8 +33,7 @@ pub fn join_letters(buffer: &mut hb_buffer_t)
 fn set_types_in(buffer: &mut hb_buffer_t)
     requires { buffer.old.have_output ≡ false }
     ensures is { buffer.new ≡ record buffer.old { input = map with_type buffer.old.input } }
-    ensures closed { buffer.new.have_output ≡ false }
-    ensures keeps { KeepsClusters buffer.old buffer.new }
+    ensures stays { StaysClosed buffer.old buffer.new }
 {
     set_types(buffer.info_slice_mut());
 }
@@ -44,8 +42,7 @@ fn set_types_in(buffer: &mut hb_buffer_t)
 fn set_forms_in(buffer: &mut hb_buffer_t, before: JoiningType, behind: JoiningType)
     requires { buffer.old.have_output ≡ false }
     ensures is { buffer.new ≡ record buffer.old { input = with_forms before buffer.old.input behind } }
-    ensures closed { buffer.new.have_output ≡ false }
-    ensures keeps { KeepsClusters buffer.old buffer.new }
+    ensures stays { StaysClosed buffer.old buffer.new }
 {
     set_forms(buffer.info_slice_mut(), before, behind);
 }
@@ -86,8 +83,7 @@ fn is_transparent(character: char) -> bool
 pub fn form_variation_selectors(buffer: &mut hb_buffer_t)
     requires { buffer.old.have_output ≡ false }
     ensures is { buffer.new ≡ record buffer.old { input = selectors_formed buffer.old.input } }
-    ensures closed { buffer.new.have_output ≡ false }
-    ensures keeps { KeepsClusters buffer.old buffer.new }
+    ensures stays { StaysClosed buffer.old buffer.new }
 {
     form_selectors(buffer.info_slice_mut());
 }

@@ -2,8 +2,9 @@
 
 ghost use Rattle.std.specs.Prelude.{◌≡◌, ◌≤◌, ◌<◌, false, true, length, map, IfOk, IfSome, IsSome, None};
 ghost use Rattle.std.specs.List.{list_any};
-ghost use Rattle.shaping_buffer.specs.KeepsClusters.{KeepsClusters};
+ghost use Rattle.shaping_buffer.specs.State.{HasPositions};
 ghost use Rattle.shaping_passes.specs.Refusals.{IsRefusal};
+ghost use Rattle.shaping_passes.specs.Left.{Closes, StaysClosed, StaysOpenAndTells};
 ghost use Rattle.script_joining.specs.ArabicMarks as arabic;
 
 use crate::arabic::measure::{FIXED, REPEATING, Stretch, last_stretch};
@@ -28,8 +29,7 @@ struct Stretched {
 pub fn record_pieces(buffer: &mut hb_buffer_t)
     requires { buffer.old.have_output ≡ false }
     ensures is { buffer.new ≡ arabic.pieces_recorded buffer.old }
-    ensures closed { buffer.new.have_output ≡ false }
-    ensures keeps { KeepsClusters buffer.old buffer.new }
+    ensures stays { StaysClosed buffer.old buffer.new }
 {
     let has_pieces = has_pieces(buffer.info());
     record_in(buffer);
@@ -41,8 +41,7 @@ pub fn record_pieces(buffer: &mut hb_buffer_t)
 fn note_pieces(buffer: &mut hb_buffer_t, has_pieces: bool)
     requires { buffer.old.have_output ≡ false }
     ensures is { buffer.new ≡ arabic.pieces_noted has_pieces buffer.old }
-    ensures closed { buffer.new.have_output ≡ false }
-    ensures keeps { KeepsClusters buffer.old buffer.new }
+    ensures stays { StaysClosed buffer.old buffer.new }
 {
     if has_pieces {
         buffer.scratch_flags = buffer.scratch_flags | HB_BUFFER_SCRATCH_FLAG_SHAPER0;
@@ -53,8 +52,7 @@ fn note_pieces(buffer: &mut hb_buffer_t, has_pieces: bool)
 fn record_in(buffer: &mut hb_buffer_t)
     requires { buffer.old.have_output ≡ false }
     ensures is { buffer.new ≡ arabic.all_recorded buffer.old }
-    ensures closed { buffer.new.have_output ≡ false }
-    ensures keeps { KeepsClusters buffer.old buffer.new }
+    ensures stays { StaysClosed buffer.old buffer.new }
 {
     record_all(buffer.info_slice_mut());
 }
@@ -120,13 +118,10 @@ pub fn stretch<F: FontGlyphs>(
     buffer: &mut hb_buffer_t,
     font: &F,
 ) -> Result<bool, AllocError>
-    requires closed { buffer.old.have_output ≡ false }
-    requires placed { IsSome buffer.old.positions }
-    ensures closed { IfOk result (λ done. done ≡ true → buffer.new.have_output ≡ false) }
+    requires { HasPositions buffer.old }
     ensures placed { IfOk result (λ done. done ≡ true → IsSome buffer.new.positions) }
     ensures done { IfOk result (λ done. done ≡ true → buffer.new.successful ≡ buffer.old.successful) }
-    ensures refusal { IsRefusal false result buffer.new }
-    ensures keeps { KeepsClusters buffer.old buffer.new }
+    ensures closes { Closes result buffer.old buffer.new }
 {
     if buffer.scratch_flags & HB_BUFFER_SCRATCH_FLAG_SHAPER0 == 0 {
         return Ok(true);
@@ -137,41 +132,21 @@ pub fn stretch<F: FontGlyphs>(
     }
 }
 
-/// What a text becomes, whichever way its line runs; `None` where it would become too long.
+/// What a text becomes, whichever way its line runs; `None` where it would become too long. Where words stand behind their marks, the text
+/// is reversed while it is read.
 fn stretched_line<F: FontGlyphs>(
     alloc: Global,
     buffer: &mut hb_buffer_t,
     font: &F,
 ) -> Result<Option<Stretched>, AllocError>
-    requires closed { buffer.old.have_output ≡ false }
-    requires placed { IsSome buffer.old.positions }
-    ensures closed { buffer.new.have_output ≡ false }
-    ensures placed { IsSome buffer.new.positions }
+    requires { HasPositions buffer.old }
     ensures done { IfOk result (λ line. IfSome line (λ _. buffer.new.successful ≡ buffer.old.successful)) }
     ensures refusal { IsRefusal None result buffer.new }
-    ensures keeps { KeepsClusters buffer.old buffer.new }
+    ensures stays { arabic.StaysPlaced buffer.old buffer.new }
 {
     if buffer.direction == Direction::RightToLeft {
-        stretched_text(alloc, buffer, font, true)
-    } else {
-        stretched_backwards(alloc, buffer, font)
+        return stretched_text(alloc, buffer, font, true);
     }
-}
-
-/// What a text becomes whose words stand behind their marks: it is reversed while it is read.
-fn stretched_backwards<F: FontGlyphs>(
-    alloc: Global,
-    buffer: &mut hb_buffer_t,
-    font: &F,
-) -> Result<Option<Stretched>, AllocError>
-    requires closed { buffer.old.have_output ≡ false }
-    requires placed { IsSome buffer.old.positions }
-    ensures closed { buffer.new.have_output ≡ false }
-    ensures placed { IsSome buffer.new.positions }
-    ensures done { IfOk result (λ line. IfSome line (λ _. buffer.new.successful ≡ buffer.old.successful)) }
-    ensures refusal { IsRefusal None result buffer.new }
-    ensures keeps { KeepsClusters buffer.old buffer.new }
-{
     buffer.reverse();
     let stretched = stretched_text(alloc, buffer, font, false);
     buffer.reverse();
@@ -185,13 +160,10 @@ fn stretched_text<F: FontGlyphs>(
     font: &F,
     is_right_to_left: bool,
 ) -> Result<Option<Stretched>, AllocError>
-    requires closed { buffer.old.have_output ≡ false }
-    requires placed { IsSome buffer.old.positions }
-    ensures closed { buffer.new.have_output ≡ false }
-    ensures placed { IsSome buffer.new.positions }
+    requires { HasPositions buffer.old }
     ensures done { IfOk result (λ line. IfSome line (λ _. buffer.new.successful ≡ buffer.old.successful)) }
     ensures refusal { IsRefusal None result buffer.new }
-    ensures keeps { KeepsClusters buffer.old buffer.new }
+    ensures stays { arabic.StaysPlaced buffer.old buffer.new }
 {
     let stretches = stretches_of(alloc, buffer, font)?;
     if !buffer.ensure(stretched_length(buffer.len(), stretches.as_slice()))? {
@@ -205,12 +177,9 @@ fn stretched_text<F: FontGlyphs>(
 /// Flags each word with its marks as unsafe to break.
 #[tactic(auto, using(shaping_buffer::proofs::ClosedKeepsLemmas::kept))]
 fn flag_words(buffer: &mut hb_buffer_t, stretches: &[Stretch])
-    requires closed { buffer.old.have_output ≡ false }
-    requires placed { IsSome buffer.old.positions }
-    ensures closed { buffer.new.have_output ≡ false }
-    ensures placed { IsSome buffer.new.positions }
+    requires { HasPositions buffer.old }
     ensures allowed { buffer.new.successful ≡ buffer.old.successful }
-    ensures keeps { KeepsClusters buffer.old buffer.new }
+    ensures stays { arabic.StaysPlaced buffer.old buffer.new }
 {
     for stretch in stretches {
         if stretch.word <= stretch.end && stretch.end <= buffer.len() {
@@ -225,8 +194,7 @@ fn stretches_of<F: FontGlyphs>(
     buffer: &hb_buffer_t,
     font: &F,
 ) -> Result<Vec<Stretch>, AllocError>
-    requires closed { buffer.now.have_output ≡ false }
-    requires placed { IsSome buffer.now.positions }
+    requires { HasPositions buffer.now }
 {
     let infos = buffer.info();
     let positions = buffer.pos();
@@ -287,25 +255,18 @@ impl Stretched {
     ) -> Result<(), AllocError> {
         let mut end = infos.len();
         for stretch in stretches {
-            self.keep(positions, stretch.end, end)?;
+            self.keep(positions.get(stretch.end..end))?;
             self.stretch(infos, positions, stretch, font)?;
             end = stretch.start;
         }
-        self.keep(positions, 0, end)
+        self.keep(positions.get(..end))
     }
 
-    /// Adds the glyphs from a place to another as they are.
-    fn keep(
-        &mut self,
-        positions: &[GlyphPosition],
-        start: usize,
-        end: usize,
-    ) -> Result<(), AllocError> {
-        if let Some(positions) = positions.get(start..end) {
-            for position in positions.iter().rev() {
-                self.counts.push(1)?;
-                self.positions.push(*position)?;
-            }
+    /// Adds glyphs as they are, if there are any.
+    fn keep(&mut self, positions: Option<&[GlyphPosition]>) -> Result<(), AllocError> {
+        for position in positions.unwrap_or(&[]).iter().rev() {
+            self.counts.push(1)?;
+            self.positions.push(*position)?;
         }
         Ok(())
     }
@@ -373,11 +334,9 @@ impl Stretched {
     #[tactic(auto, using(shaping_buffer::proofs::ClosedKeepsLemmas::kept))]
     fn put_into(self, buffer: &mut hb_buffer_t) -> Result<bool, AllocError>
         requires { buffer.old.have_output ≡ false }
-        ensures closed { IfOk result (λ done. done ≡ true → buffer.new.have_output ≡ false) }
         ensures placed { IfOk result (λ done. done ≡ true → IsSome buffer.new.positions) }
         ensures done { IfOk result (λ done. done ≡ true → buffer.new.successful ≡ buffer.old.successful) }
-        ensures refusal { IsRefusal false result buffer.new }
-        ensures keeps { KeepsClusters buffer.old buffer.new }
+        ensures closes { Closes result buffer.old buffer.new }
     {
         if !repeat_glyphs(buffer, self.counts.as_slice())? {
             return Ok(false);
@@ -411,10 +370,8 @@ fn put_positions(places: &mut [GlyphPosition], positions: &[GlyphPosition]) {
 #[tactic(auto, using(shaping_buffer::proofs::ClosedKeepsLemmas::kept))]
 fn repeat_glyphs(buffer: &mut hb_buffer_t, counts: &[usize]) -> Result<bool, AllocError>
     requires { buffer.old.have_output ≡ false }
-    ensures closed { IfOk result (λ done. done ≡ true → buffer.new.have_output ≡ false) }
     ensures done { IfOk result (λ done. done ≡ true → buffer.new.successful ≡ buffer.old.successful) }
-    ensures refusal { IsRefusal false result buffer.new }
-    ensures keeps { KeepsClusters buffer.old buffer.new }
+    ensures closes { Closes result buffer.old buffer.new }
 {
     buffer.clear_output();
     for count in counts {
@@ -429,10 +386,8 @@ fn repeat_glyphs(buffer: &mut hb_buffer_t, counts: &[usize]) -> Result<bool, All
 #[tactic(auto, using(shaping_buffer::proofs::ClosedKeepsLemmas::kept))]
 fn repeat_glyph(buffer: &mut hb_buffer_t, count: usize) -> Result<bool, AllocError>
     requires { buffer.old.have_output ≡ true }
-    ensures opened { IfOk result (λ _. buffer.new.have_output ≡ true) }
     ensures done { IfOk result (λ done. done ≡ true → buffer.new.successful ≡ buffer.old.successful) }
-    ensures refusal { IsRefusal false result buffer.new }
-    ensures keeps { KeepsClusters buffer.old buffer.new }
+    ensures stays { StaysOpenAndTells false result buffer.old buffer.new }
 {
     if buffer.lookahead_len() == 0 {
         return Ok(true);

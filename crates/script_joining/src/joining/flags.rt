@@ -1,7 +1,7 @@
 //! What is known of the places between letters: whether a line may be broken there, texts put together, a tatweel inserted.
 
 ghost use Rattle.std.specs.Prelude.{◌≡◌, false};
-ghost use Rattle.shaping_buffer.specs.KeepsClusters.{KeepsClusters};
+ghost use Rattle.shaping_passes.specs.Left.{StaysClosed};
 ghost use Rattle.script_joining.specs.Flags as flags;
 ghost use Rattle.script_joining.specs.Flags.{heeds_next, heeds_previous, tie_of};
 
@@ -71,8 +71,7 @@ fn tie_of(is_heeded: bool, own: JoiningType) -> Tie
 #[tactic(auto, using(shaping_buffer::proofs::ClosedKeepsLemmas::kept))]
 pub(crate) fn flag_joins(buffer: &mut hb_buffer_t, before: JoiningType, behind: Option<JoiningType>)
     requires { buffer.old.have_output ≡ false }
-    ensures closed { buffer.new.have_output ≡ false }
-    ensures keeps { KeepsClusters buffer.old buffer.new }
+    ensures { StaysClosed buffer.old buffer.new }
 {
     let mut last = LastLetter {
         place: None,
@@ -125,8 +124,7 @@ fn kind_at(infos: &[hb_glyph_info_t], place: usize) -> JoiningType
 fn flag_join(buffer: &mut hb_buffer_t, last: &LastLetter, own: JoiningType, end: usize)
     requires { buffer.old.have_output ≡ false }
     ensures is { buffer.new ≡ flags.flagged_join last.now own end buffer.old }
-    ensures closed { buffer.new.have_output ≡ false }
-    ensures keeps { KeepsClusters buffer.old buffer.new }
+    ensures stays { StaysClosed buffer.old buffer.new }
 {
     flag_formed(buffer, last.formed_by, last.place, own);
     flag_behind(buffer, last.place, last.heeds_next, own, end);
@@ -143,8 +141,7 @@ fn flag_behind(
 )
     requires { buffer.old.have_output ≡ false }
     ensures is { buffer.new ≡ flags.flagged_behind place is_heeded own end buffer.old }
-    ensures closed { buffer.new.have_output ≡ false }
-    ensures keeps { KeepsClusters buffer.old buffer.new }
+    ensures stays { StaysClosed buffer.old buffer.new }
 {
     match place {
         Some(start) => flag_between(buffer, tie_of(is_heeded, own), start, end),
@@ -161,8 +158,7 @@ fn flag_behind(
 fn flag_end(buffer: &mut hb_buffer_t, last: &LastLetter, behind: Option<JoiningType>)
     requires { buffer.old.have_output ≡ false }
     ensures is { buffer.new ≡ flags.flagged_end last.now behind buffer.old }
-    ensures closed { buffer.new.have_output ≡ false }
-    ensures keeps { KeepsClusters buffer.old buffer.new }
+    ensures stays { StaysClosed buffer.old buffer.new }
 {
     let next = behind.unwrap_or(NonJoining);
     flag_formed(buffer, last.formed_by, last.place, next);
@@ -174,20 +170,14 @@ fn flag_end(buffer: &mut hb_buffer_t, last: &LastLetter, behind: Option<JoiningT
 fn flag_before(buffer: &mut hb_buffer_t, at: Option<usize>, heeds: bool, next: Option<JoiningType>)
     requires { buffer.old.have_output ≡ false }
     ensures is { buffer.new ≡ flags.flagged_before at heeds next buffer.old }
-    ensures closed { buffer.new.have_output ≡ false }
-    ensures keeps { KeepsClusters buffer.old buffer.new }
+    ensures stays { StaysClosed buffer.old buffer.new }
 {
-    match at {
-        Some(start) => match next {
-            Some(own) => {
-                if heeds {
-                    let end = buffer.len();
-                    flag_between(buffer, tie_of(true, own), start, end);
-                }
-            }
-            None => {}
-        },
-        None => {}
+    if let Some(start) = at
+        && let Some(own) = next
+        && heeds
+    {
+        let end = buffer.len();
+        flag_between(buffer, tie_of(true, own), start, end);
     }
 }
 
@@ -196,8 +186,7 @@ fn flag_before(buffer: &mut hb_buffer_t, at: Option<usize>, heeds: bool, next: O
 fn flag_formed(buffer: &mut hb_buffer_t, from: Option<usize>, at: Option<usize>, next: JoiningType)
     requires { buffer.old.have_output ≡ false }
     ensures is { buffer.new ≡ flags.flagged_formed from at next buffer.old }
-    ensures closed { buffer.new.have_output ≡ false }
-    ensures keeps { KeepsClusters buffer.old buffer.new }
+    ensures stays { StaysClosed buffer.old buffer.new }
 {
     match from {
         Some(from) => match at {
@@ -213,8 +202,7 @@ fn flag_formed(buffer: &mut hb_buffer_t, from: Option<usize>, at: Option<usize>,
 fn keep_formed(buffer: &mut hb_buffer_t, from: usize, place: usize, next: JoiningType)
     requires { buffer.old.have_output ≡ false }
     ensures is { buffer.new ≡ flags.kept_formed from place next buffer.old }
-    ensures closed { buffer.new.have_output ≡ false }
-    ensures keeps { KeepsClusters buffer.old buffer.new }
+    ensures stays { StaysClosed buffer.old buffer.new }
 {
     if from <= place && place < buffer.len() && !next.joins_previous() {
         buffer.unsafe_to_break(Some(from), Some(place + 1));
@@ -226,8 +214,7 @@ fn keep_formed(buffer: &mut hb_buffer_t, from: usize, place: usize, next: Joinin
 fn flag_between(buffer: &mut hb_buffer_t, tie: Tie, start: usize, end: usize)
     requires { buffer.old.have_output ≡ false }
     ensures is { buffer.new ≡ flags.flagged_between tie start end buffer.old }
-    ensures closed { buffer.new.have_output ≡ false }
-    ensures keeps { KeepsClusters buffer.old buffer.new }
+    ensures stays { StaysClosed buffer.old buffer.new }
 {
     if start > end || end > buffer.len() {
         return;

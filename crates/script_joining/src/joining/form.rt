@@ -39,18 +39,7 @@ impl ArabicAction {
     pub(crate) fn number(self) -> u8
         ensures { result ≡ number_of_form self }
     {
-        match self {
-            Unformed => 0,
-            Isol => 1,
-            Fina => 2,
-            Fin2 => 3,
-            Fin3 => 4,
-            Medi => 5,
-            Med2 => 6,
-            Init => 7,
-            StchFixed => 8,
-            StchRepeating => 9,
-        }
+        self as u8
     }
 }
 

@@ -57,15 +57,7 @@ impl JoiningType {
     pub(crate) fn number(self) -> u8
         ensures { result ≡ number_of_type self }
     {
-        match self {
-            NonJoining => 0,
-            Left => 1,
-            Right => 2,
-            Dual => 3,
-            Alaph => 4,
-            DalathRish => 5,
-            Transparent => 6,
-        }
+        self as u8
     }
 
     /// The type with a number.

@@ -30,10 +30,13 @@ returns-clause-length c =
     (length-map_range f l c.args.start c.args.end c.requires.order))
     ∙ length-map_range f l c.args.start c.args.end c.requires.order
 
-pub returns-clause-keeps : goal.returns-clause-keeps
-returns-clause-keeps c =
+pub returns-clause-stays : goal.returns-clause-stays
+returns-clause-stays c =
     let f = with_class c.args.class in
-    keeps_with_input c.args.buffer.now c.set_classes_of.new.infos c.info_slice_mut.result.now c.info_slice_mut.ensures.value
-    (ap clusters c.set_classes_of.ensures
-    ∙ map-map_range (λ (g : hb_glyph_info_t). g.cluster) f (with_class-cluster c.args.class) c.info_slice_mut.result.now
-    c.args.start c.args.end c.requires.order)
+    record {
+      closed = c.requires.closed;
+      keeps = keeps_with_input c.args.buffer.now c.set_classes_of.new.infos c.info_slice_mut.result.now c.info_slice_mut.ensures.value
+          (ap clusters c.set_classes_of.ensures
+          ∙ map-map_range (λ (g : hb_glyph_info_t). g.cluster) f (with_class-cluster c.args.class) c.info_slice_mut.result.now
+          c.args.start c.args.end c.requires.order);
+    }

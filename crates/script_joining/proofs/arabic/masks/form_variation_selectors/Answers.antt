@@ -14,7 +14,9 @@ returns-clause-is c =
     (c.form_selectors.ensures ∙ ap (λ (xs : List hb_glyph_info_t). selectors_formed xs) c.info_slice_mut.ensures.value)
     (length-selectors_formed l)
 
-pub returns-clause-keeps : goal.returns-clause-keeps
-returns-clause-keeps c =
-    keeps_with_input c.args.buffer.now c.form_selectors.new.infos c.info_slice_mut.result.now c.info_slice_mut.ensures.value
-    (ap clusters c.form_selectors.ensures ∙ clusters-selectors_formed c.info_slice_mut.result.now)
+pub returns-clause-stays : goal.returns-clause-stays
+returns-clause-stays c = record {
+  closed = c.requires;
+  keeps = keeps_with_input c.args.buffer.now c.form_selectors.new.infos c.info_slice_mut.result.now c.info_slice_mut.ensures.value
+      (ap clusters c.form_selectors.ensures ∙ clusters-selectors_formed c.info_slice_mut.result.now);
+}

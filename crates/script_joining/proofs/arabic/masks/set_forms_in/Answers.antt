@@ -15,8 +15,10 @@ returns-clause-is c =
     ∙ ap (λ (xs : List hb_glyph_info_t). with_forms c.args.before xs c.args.behind) c.info_slice_mut.ensures.value)
     (length-with_forms c.args.before c.args.behind l)
 
-pub returns-clause-keeps : goal.returns-clause-keeps
-returns-clause-keeps c =
-    keeps_with_input c.args.buffer.now c.set_forms.new.infos c.info_slice_mut.result.now c.info_slice_mut.ensures.value
-    (ap clusters c.set_forms.ensures
-    ∙ clusters-with_forms c.args.before c.args.behind c.info_slice_mut.result.now)
+pub returns-clause-stays : goal.returns-clause-stays
+returns-clause-stays c = record {
+  closed = c.requires;
+  keeps = keeps_with_input c.args.buffer.now c.set_forms.new.infos c.info_slice_mut.result.now c.info_slice_mut.ensures.value
+      (ap clusters c.set_forms.ensures
+      ∙ clusters-with_forms c.args.before c.args.behind c.info_slice_mut.result.now);
+}
