@@ -1,8 +1,8 @@
 //! Hebrew: letters with marks as one character, in fonts without positions of marks, and the order of marks.
 
 ghost use Rattle.std.specs.Prelude.{◌≡◌, ◌<◌, ◌≤◌, ◌+◌, false, length};
-ghost use Rattle.shaping_buffer.specs.KeepsClusters.{KeepsClusters};
 ghost use Rattle.rb_glyph.specs.Tables.{composition_of};
+ghost use Rattle.shaping_passes.specs.Left.{StaysClosed};
 ghost use Rattle.script_letters.specs.Hebrew as hebrew;
 ghost use Rattle.script_letters.specs.Hebrew.{presentation_forms};
 
@@ -80,8 +80,7 @@ pub fn presentation_form(a: char, b: char) -> Option<char>
 pub fn reorder_marks(buffer: &mut hb_buffer_t, start: usize, end: usize)
     requires { buffer.old.have_output ≡ false }
     ensures is { hebrew.IsReordered start end buffer.old buffer.new }
-    ensures closed { buffer.new.have_output ≡ false }
-    ensures keeps { KeepsClusters buffer.old buffer.new }
+    ensures stays { StaysClosed buffer.old buffer.new }
 {
     let end = end.min(buffer.len());
     match misplaced_mark(buffer.info(), start, end) {
@@ -97,8 +96,7 @@ fn move_mark(buffer: &mut hb_buffer_t, place: usize)
     requires behind { 0 < place }
     requires within { place < length buffer.old.input }
     ensures is { buffer.new ≡ hebrew.mark_moved place buffer.old }
-    ensures closed { buffer.new.have_output ≡ false }
-    ensures keeps { KeepsClusters buffer.old buffer.new }
+    ensures stays { StaysClosed buffer.old buffer.new }
 {
     prove!(place < buffer.len());
     merge(buffer, place - 1, place + 1);

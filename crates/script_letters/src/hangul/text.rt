@@ -1,10 +1,11 @@
 //! The syllables of a text.
 
 ghost use Rattle.std.specs.Prelude.{◌≡◌, ◌<◌, ◌≤◌, ◌+◌, false, true, length, IfOk, IfSome, None};
-ghost use Rattle.shaping_buffer.specs.KeepsClusters.{KeepsClusters};
 ghost use Rattle.glyph_lists.specs.Clusters.{clusters};
 ghost use Rattle.shaping_buffer.specs.State.{len};
+ghost use Rattle.shaping_buffer.specs.KeepsClusters.{KeepsClusters};
 ghost use Rattle.shaping_passes.specs.Refusals.{IsRefusal};
+ghost use Rattle.shaping_passes.specs.Left.{HasCurrent, StaysOpen, StaysOpenAndTells};
 ghost use Rattle.script_letters.specs.Hangul as hangul;
 ghost use Rattle.script_letters.specs.declared.hangul.syllables.Step.TheVariants.{Pass};
 
@@ -53,11 +54,8 @@ fn read_next<F: FontGlyphs>(
     font: &F,
     last: Syllable,
 ) -> Result<Option<Syllable>, AllocError>
-    requires opened { buffer.old.have_output ≡ true }
-    requires glyph { 0 < length buffer.old.input }
-    ensures opened { IfOk result (λ _. buffer.new.have_output ≡ true) }
-    ensures refusal { IsRefusal None result buffer.new }
-    ensures keeps { KeepsClusters buffer.old buffer.new }
+    requires { HasCurrent buffer.old }
+    ensures { StaysOpenAndTells None result buffer.old buffer.new }
 {
     let first = buffer.cur(0).glyph_id;
     if !is_tone(first) {
@@ -76,12 +74,9 @@ fn read_syllable<F: FontGlyphs>(
     buffer: &mut hb_buffer_t,
     font: &F,
 ) -> Result<Option<Syllable>, AllocError>
-    requires opened { buffer.old.have_output ≡ true }
-    requires glyph { 0 < length buffer.old.input }
-    ensures opened { IfOk result (λ _. buffer.new.have_output ≡ true) }
+    requires { HasCurrent buffer.old }
     ensures passed { hangul.step_at (F.has font.now) buffer.old.input ≡ Pass → IfOk result (λ next. IfSome next hangul.IsEmpty) }
-    ensures refusal { IsRefusal None result buffer.new }
-    ensures keeps { KeepsClusters buffer.old buffer.new }
+    ensures stays { StaysOpenAndTells None result buffer.old buffer.new }
 {
     let first = character_at(buffer.info(), 0);
     let second = character_at(buffer.info(), 1);
@@ -118,8 +113,7 @@ fn character_at(infos: &[hb_glyph_info_t], place: usize) -> u32
 fn flag_unsafe(buffer: &mut hb_buffer_t, count: usize)
     requires { buffer.old.have_output ≡ true }
     ensures is { buffer.new ≡ hangul.flagged_unsafe count buffer.old }
-    ensures opened { buffer.new.have_output ≡ true }
-    ensures keeps { KeepsClusters buffer.old buffer.new }
+    ensures stays { StaysOpen buffer.old buffer.new }
 {
     let start = buffer.idx();
     let end = buffer.len();
@@ -131,11 +125,8 @@ fn flag_unsafe(buffer: &mut hb_buffer_t, count: usize)
 /// Does what was decided.
 #[tactic(auto, using(shaping_buffer::proofs::ClosedKeepsLemmas::kept))]
 fn take_step(buffer: &mut hb_buffer_t, step: Step) -> Result<bool, AllocError>
-    requires opened { buffer.old.have_output ≡ true }
-    requires glyph { 0 < length buffer.old.input }
-    ensures opened { IfOk result (λ _. buffer.new.have_output ≡ true) }
-    ensures refusal { IsRefusal false result buffer.new }
-    ensures keeps { KeepsClusters buffer.old buffer.new }
+    requires { HasCurrent buffer.old }
+    ensures { StaysOpenAndTells false result buffer.old buffer.new }
 {
     let start = buffer.out_len();
     match step {
@@ -167,11 +158,8 @@ fn put_jamo(
     jamo: (u32, u32, u32),
     takes_next: bool,
 ) -> Result<bool, AllocError>
-    requires opened { buffer.old.have_output ≡ true }
-    requires glyph { 0 < length buffer.old.input }
-    ensures opened { IfOk result (λ _. buffer.new.have_output ≡ true) }
-    ensures refusal { IsRefusal false result buffer.new }
-    ensures keeps { KeepsClusters buffer.old buffer.new }
+    requires { HasCurrent buffer.old }
+    ensures { StaysOpenAndTells false result buffer.old buffer.new }
 {
     let (leading, vowel, trailing) = jamo;
     let count = if trailing == 0 { 2 } else { 3 };
@@ -189,8 +177,7 @@ fn put_jamo(
 fn end_jamo(buffer: &mut hb_buffer_t, start: usize)
     requires { buffer.old.have_output ≡ true }
     ensures is { buffer.new ≡ hangul.jamo_ended start buffer.old }
-    ensures opened { buffer.new.have_output ≡ true }
-    ensures keeps { KeepsClusters buffer.old buffer.new }
+    ensures stays { StaysOpen buffer.old buffer.new }
 {
     number_jamo(buffer, start);
     merge_jamo(buffer, start);
@@ -201,8 +188,7 @@ fn end_jamo(buffer: &mut hb_buffer_t, start: usize)
 fn merge_jamo(buffer: &mut hb_buffer_t, start: usize)
     requires { buffer.old.have_output ≡ true }
     ensures is { buffer.new ≡ hangul.jamo_merged start buffer.old }
-    ensures opened { buffer.new.have_output ≡ true }
-    ensures keeps { KeepsClusters buffer.old buffer.new }
+    ensures stays { StaysOpen buffer.old buffer.new }
 {
     let end = buffer.out_len();
     if buffer.cluster_level == HB_BUFFER_CLUSTER_LEVEL_MONOTONE_GRAPHEMES && start <= end {
@@ -214,8 +200,7 @@ fn merge_jamo(buffer: &mut hb_buffer_t, start: usize)
 fn number_jamo(buffer: &mut hb_buffer_t, start: usize)
     requires { buffer.old.have_output ≡ true }
     ensures is { buffer.new ≡ record buffer.old { out = hangul.numbered start buffer.old.out } }
-    ensures opened { buffer.new.have_output ≡ true }
-    ensures keeps { KeepsClusters buffer.old buffer.new }
+    ensures stays { StaysOpen buffer.old buffer.new }
 {
     number_all(buffer.out_info_mut(), start);
 }

@@ -1,8 +1,7 @@
 //! Tone marks of Hangul: each is written before its syllable, and on a dotted circle where it has none.
 
 ghost use Rattle.std.specs.Prelude.{◌≡◌, ◌<◌, ◌≤◌, ◌+◌, false, true, length, IfOk};
-ghost use Rattle.shaping_buffer.specs.KeepsClusters.{KeepsClusters};
-ghost use Rattle.shaping_passes.specs.Refusals.{IsRefusal};
+ghost use Rattle.shaping_passes.specs.Left.{HasCurrent, StaysOpen, StaysOpenAndTells};
 ghost use Rattle.script_letters.specs.Hangul as hangul;
 
 use crate::hangul::text::Syllable;
@@ -21,11 +20,8 @@ pub(crate) fn read_tone<F: FontGlyphs>(
     font: &F,
     last: Syllable,
 ) -> Result<bool, AllocError>
-    requires opened { buffer.old.have_output ≡ true }
-    requires glyph { 0 < length buffer.old.input }
-    ensures opened { IfOk result (λ _. buffer.new.have_output ≡ true) }
-    ensures refusal { IsRefusal false result buffer.new }
-    ensures keeps { KeepsClusters buffer.old buffer.new }
+    requires { HasCurrent buffer.old }
+    ensures { StaysOpenAndTells false result buffer.old buffer.new }
 {
     let tone = buffer.cur(0).glyph_id;
     if last.start < last.end && last.end == buffer.out_len() {
@@ -59,13 +55,10 @@ fn read_after_syllable(
     last: Syllable,
     is_moved: bool,
 ) -> Result<bool, AllocError>
-    requires opened { buffer.old.have_output ≡ true }
-    requires glyph { 0 < length buffer.old.input }
+    requires current { HasCurrent buffer.old }
     requires order { last.start < last.end }
     requires ends { last.end ≡ length buffer.old.out }
-    ensures opened { IfOk result (λ _. buffer.new.have_output ≡ true) }
-    ensures refusal { IsRefusal false result buffer.new }
-    ensures keeps { KeepsClusters buffer.old buffer.new }
+    ensures { StaysOpenAndTells false result buffer.old buffer.new }
 {
     let read = buffer.idx();
     buffer.unsafe_to_break_from_outbuffer(Some(last.start), Some(read));
@@ -87,8 +80,7 @@ fn move_tone(buffer: &mut hb_buffer_t, start: usize)
     requires opened { buffer.old.have_output ≡ true }
     requires behind { start < length buffer.old.out }
     ensures is { buffer.new ≡ hangul.tone_moved start (length buffer.old.out) buffer.old }
-    ensures opened { buffer.new.have_output ≡ true }
-    ensures keeps { KeepsClusters buffer.old buffer.new }
+    ensures stays { StaysOpen buffer.old buffer.new }
 {
     let end = buffer.out_len();
     merge_out(buffer, start, end);

@@ -3,7 +3,7 @@
 
 ghost use Rattle.std.specs.Prelude.{◌≡◌, ◌<◌, ◌≤◌, false, length};
 ghost use Rattle.glyph_lists.specs.Clusters.{clusters};
-ghost use Rattle.shaping_buffer.specs.KeepsClusters.{KeepsClusters};
+ghost use Rattle.shaping_passes.specs.Left.{StaysClosed};
 ghost use Rattle.script_letters.specs.Hangul.{character_at};
 ghost use Rattle.script_letters.specs.Thai as thai;
 
@@ -215,8 +215,7 @@ fn chosen(above: Action, below: Action) -> Action
 #[tactic(auto, using(shaping_buffer::proofs::ClosedKeepsLemmas::kept))]
 pub fn shape_private_use<F: FontGlyphs>(buffer: &mut hb_buffer_t, font: &F)
     requires { buffer.old.have_output ≡ false }
-    ensures closed { buffer.new.have_output ≡ false }
-    ensures keeps { KeepsClusters buffer.old buffer.new }
+    ensures { StaysClosed buffer.old buffer.new }
 {
     let mut around = Around {
         base: 0,
@@ -246,8 +245,7 @@ fn shape_mark<F: FontGlyphs>(
 )
     requires { buffer.old.have_output ≡ false }
     ensures is { buffer.new ≡ thai.mark_shaped (F.has font.now) action base mark buffer.old }
-    ensures closed { buffer.new.have_output ≡ false }
-    ensures keeps { KeepsClusters buffer.old buffer.new }
+    ensures stays { StaysClosed buffer.old buffer.new }
 {
     keep_to_base(buffer, base, mark);
     let place = place_of(action, base, mark);
@@ -259,8 +257,7 @@ fn shape_mark<F: FontGlyphs>(
 fn keep_to_base(buffer: &mut hb_buffer_t, base: usize, mark: usize)
     requires { buffer.old.have_output ≡ false }
     ensures is { buffer.new ≡ thai.kept_to_base base mark buffer.old }
-    ensures closed { buffer.new.have_output ≡ false }
-    ensures keeps { KeepsClusters buffer.old buffer.new }
+    ensures stays { StaysClosed buffer.old buffer.new }
 {
     if base <= mark && mark <= buffer.len() {
         buffer.unsafe_to_break(Some(base), Some(mark));
@@ -292,8 +289,7 @@ fn character_at(infos: &[hb_glyph_info_t], place: usize) -> u32
 fn replace_at<F: FontGlyphs>(buffer: &mut hb_buffer_t, place: usize, action: Action, font: &F)
     requires { buffer.old.have_output ≡ false }
     ensures is { buffer.new ≡ record buffer.old { input = thai.shaped_at (F.has font.now) action place buffer.old.input } }
-    ensures closed { buffer.new.have_output ≡ false }
-    ensures keeps { KeepsClusters buffer.old buffer.new }
+    ensures stays { StaysClosed buffer.old buffer.new }
 {
     replace_character(buffer.info_slice_mut(), place, action, font);
 }

@@ -3,12 +3,13 @@
 
 ghost use Rattle.std.specs.Prelude.{◌≡◌, ℕ, ◌+◌, ◌-◌, ◌<◌, ◌≤◌, false, true, length, slice_index_or, IfOk};
 ghost use Rattle.glyph_lists.specs.Clusters.{clusters};
-ghost use Rattle.shaping_buffer.specs.KeepsClusters.{KeepsClusters};
 ghost use Rattle.rb_glyph.specs.declared.info.hb_glyph_info_t.{hb_glyph_info_t};
 ghost use Rattle.shaping_buffer.specs.Step.{output_glyph};
+ghost use Rattle.shaping_buffer.specs.KeepsClusters.{KeepsClusters};
+ghost use Rattle.shaping_passes.specs.Refusals.{IsRefusal};
+ghost use Rattle.shaping_passes.specs.Left.{HasCurrent, StaysOpen, StaysOpenAndTells};
 ghost use Rattle.script_letters.specs.Thai as thai;
 ghost use Rattle.script_letters.specs.Thai.{is_sara_am, is_above_base, parts_of};
-ghost use Rattle.shaping_passes.specs.Refusals.{IsRefusal};
 
 use script_items::item::become_mark;
 use script_items::moves::{merge_out, move_out_back};
@@ -74,9 +75,7 @@ fn plain_length(infos: &[hb_glyph_info_t]) -> usize
 #[tactic(auto, using(shaping_buffer::proofs::ClosedKeepsLemmas::kept))]
 fn split_next(buffer: &mut hb_buffer_t) -> Result<bool, AllocError>
     requires { buffer.old.have_output ≡ true }
-    ensures opened { IfOk result (λ _. buffer.new.have_output ≡ true) }
-    ensures refusal { IsRefusal false result buffer.new }
-    ensures keeps { KeepsClusters buffer.old buffer.new }
+    ensures { StaysOpenAndTells false result buffer.old buffer.new }
 {
     let plain = plain_length(buffer.info());
     if !buffer.next_glyphs(plain)? {
@@ -91,11 +90,8 @@ fn split_next(buffer: &mut hb_buffer_t) -> Result<bool, AllocError>
 /// Takes the vowel AM at the cursor apart.
 #[tactic(auto, using(shaping_buffer::proofs::ClosedKeepsLemmas::kept))]
 fn split_current(buffer: &mut hb_buffer_t) -> Result<bool, AllocError>
-    requires opened { buffer.old.have_output ≡ true }
-    requires glyph { 0 < length buffer.old.input }
-    ensures opened { IfOk result (λ _. buffer.new.have_output ≡ true) }
-    ensures refusal { IsRefusal false result buffer.new }
-    ensures keeps { KeepsClusters buffer.old buffer.new }
+    requires { HasCurrent buffer.old }
+    ensures { StaysOpenAndTells false result buffer.old buffer.new }
 {
     let character = buffer.cur(0).glyph_id;
     let Some((ring, rest)) = parts_of(character) else {
@@ -122,15 +118,12 @@ fn parts_of(character: u32) -> Option<(u32, u32)>
 /// Puts the ring out, as a mark that goes on with the grapheme before it.
 #[tactic(auto, using(shaping_buffer::proofs::ClosedKeepsLemmas::kept))]
 fn put_ring(buffer: &mut hb_buffer_t, ring: u32) -> Result<bool, AllocError>
-    requires opened { buffer.old.have_output ≡ true }
-    requires glyph { 0 < length buffer.old.input }
-    ensures opened { IfOk result (λ _. buffer.new.have_output ≡ true) }
+    requires { HasCurrent buffer.old }
     ensures glyph { IfOk result (λ _. 0 < length buffer.new.input) }
     ensures done { IfOk result (λ done. done ≡ (output_glyph ring buffer.old).done) }
     ensures is { IfOk result (λ done. done ≡ true → buffer.new ≡ thai.ring_put ring buffer.old) }
     ensures refused { IfOk result (λ done. done ≡ false → buffer.new ≡ (output_glyph ring buffer.old).state) }
-    ensures refusal { IsRefusal false result buffer.new }
-    ensures keeps { KeepsClusters buffer.old buffer.new }
+    ensures stays { StaysOpenAndTells false result buffer.old buffer.new }
 {
     if !buffer.output_glyph(ring)? {
         return Ok(false);
@@ -143,9 +136,8 @@ fn put_ring(buffer: &mut hb_buffer_t, ring: u32) -> Result<bool, AllocError>
 fn mark_last(buffer: &mut hb_buffer_t)
     requires { buffer.old.have_output ≡ true }
     ensures is { buffer.new ≡ record buffer.old { out = thai.last_marked buffer.old.out } }
-    ensures opened { buffer.new.have_output ≡ true }
     ensures input { length buffer.new.input ≡ length buffer.old.input }
-    ensures keeps { KeepsClusters buffer.old buffer.new }
+    ensures stays { StaysOpen buffer.old buffer.new }
 {
     become_last_mark(buffer.out_info_mut());
 }
@@ -168,8 +160,7 @@ fn become_last_mark(infos: &mut [hb_glyph_info_t])
 fn move_ring(buffer: &mut hb_buffer_t)
     requires { buffer.old.have_output ≡ true }
     ensures is { buffer.new ≡ thai.ring_in_place (length buffer.old.out) buffer.old }
-    ensures opened { buffer.new.have_output ≡ true }
-    ensures keeps { KeepsClusters buffer.old buffer.new }
+    ensures stays { StaysOpen buffer.old buffer.new }
 {
     let end = buffer.out_len();
     if end < 2 {
@@ -186,8 +177,7 @@ fn place_ring(buffer: &mut hb_buffer_t, start: usize, end: usize)
     requires order { start + 2 ≤ end }
     requires last { end ≡ length buffer.old.out }
     ensures is { buffer.new ≡ thai.ring_placed start end buffer.old }
-    ensures opened { buffer.new.have_output ≡ true }
-    ensures keeps { KeepsClusters buffer.old buffer.new }
+    ensures stays { StaysOpen buffer.old buffer.new }
 {
     if start + 2 < end {
         put_before_marks(buffer, start, end);
@@ -203,8 +193,7 @@ fn put_before_marks(buffer: &mut hb_buffer_t, start: usize, end: usize)
     requires order { start + 2 < end }
     requires last { end ≡ length buffer.old.out }
     ensures is { buffer.new ≡ thai.ring_moved start end buffer.old }
-    ensures opened { buffer.new.have_output ≡ true }
-    ensures keeps { KeepsClusters buffer.old buffer.new }
+    ensures stays { StaysOpen buffer.old buffer.new }
 {
     merge_out(buffer, start, end);
     move_out_back(buffer, start, end - 2, end - 1);
@@ -217,8 +206,7 @@ fn merge_ring(buffer: &mut hb_buffer_t, start: usize, end: usize)
     requires order { start ≤ end }
     requires last { end ≡ length buffer.old.out }
     ensures is { buffer.new ≡ thai.ring_merged start end buffer.old }
-    ensures opened { buffer.new.have_output ≡ true }
-    ensures keeps { KeepsClusters buffer.old buffer.new }
+    ensures stays { StaysOpen buffer.old buffer.new }
 {
     if start != 0 && buffer.cluster_level == HB_BUFFER_CLUSTER_LEVEL_MONOTONE_GRAPHEMES {
         buffer.merge_out_clusters(start - 1, end);

@@ -13,7 +13,9 @@ returns-clause-is c =
     (c.number_all.ensures.is ∙ ap (λ (xs : List hb_glyph_info_t). numbered c.args.start xs) c.out_info_mut.ensures.value)
     (length-numbered c.args.start l)
 
-pub returns-clause-keeps : goal.returns-clause-keeps
-returns-clause-keeps c =
-    keeps_with_out c.args.buffer.now c.number_all.new.infos c.out_info_mut.result.now c.out_info_mut.ensures.value
-    c.number_all.ensures.clusters
+pub returns-clause-stays : goal.returns-clause-stays
+returns-clause-stays c = record {
+  opened = c.requires;
+  keeps = keeps_with_out c.args.buffer.now c.number_all.new.infos c.out_info_mut.result.now c.out_info_mut.ensures.value
+      c.number_all.ensures.clusters;
+}

@@ -16,7 +16,9 @@ returns-clause-is g c =
     ∙ ap (λ (xs : List hb_glyph_info_t). shaped_at has c.args.action c.args.place xs) c.info_slice_mut.ensures.value)
     (length-set l c.args.place (shaped has c.args.action (get_or l c.args.place zero_glyph)))
 
-pub returns-clause-keeps : goal.returns-clause-keeps
-returns-clause-keeps g c =
-    keeps_with_input c.args.buffer.now c.replace_character.new.infos c.info_slice_mut.result.now c.info_slice_mut.ensures.value
-    c.replace_character.ensures.clusters
+pub returns-clause-stays : goal.returns-clause-stays
+returns-clause-stays g c = record {
+  closed = c.requires;
+  keeps = keeps_with_input c.args.buffer.now c.replace_character.new.infos c.info_slice_mut.result.now c.info_slice_mut.ensures.value
+      c.replace_character.ensures.clusters;
+}

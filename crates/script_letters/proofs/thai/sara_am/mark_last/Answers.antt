@@ -15,7 +15,9 @@ returns-clause-is c =
     (c.become_last_mark.ensures.is ∙ ap (λ (xs : List hb_glyph_info_t). last_marked xs) c.out_info_mut.ensures.value)
     (length-set l (length l - 1) (continuing_mark (get_or l (length l - 1) zero_glyph)))
 
-pub returns-clause-keeps : goal.returns-clause-keeps
-returns-clause-keeps c =
-    keeps_with_out c.args.buffer.now c.become_last_mark.new.infos c.out_info_mut.result.now c.out_info_mut.ensures.value
-    c.become_last_mark.ensures.clusters
+pub returns-clause-stays : goal.returns-clause-stays
+returns-clause-stays c = record {
+  opened = c.requires;
+  keeps = keeps_with_out c.args.buffer.now c.become_last_mark.new.infos c.out_info_mut.result.now c.out_info_mut.ensures.value
+      c.become_last_mark.ensures.clusters;
+}
