@@ -2,8 +2,8 @@
 
 ghost use Rattle.std.specs.Prelude.{◌≡◌, false};
 ghost use Rattle.glyph_lists.specs.Clusters.{clusters};
-ghost use Rattle.shaping_buffer.specs.KeepsClusters.{KeepsClusters};
-ghost use Rattle.script_syllables.specs.KeepsNumbers.{KeepsNumbers};
+ghost use Rattle.shaping_passes.specs.Left.{StaysClosed};
+ghost use Rattle.script_syllables.specs.Left.{NumbersStay};
 
 use crate::final_base::{FinalBase, find_final_base};
 use crate::matras::move_matras;
@@ -26,8 +26,7 @@ use std::ops::Range;
 /// Puts the glyphs of each syllable in order. `virama` is the glyph of the halant.
 pub(crate) fn order_finally(buffer: &mut hb_buffer_t, plan: &IndicPlan, virama: Option<u32>)
     requires { buffer.old.have_output ≡ false }
-    ensures closed { buffer.new.have_output ≡ false }
-    ensures keeps { KeepsNumbers buffer.old buffer.new }
+    ensures { NumbersStay buffer.old buffer.new }
 {
     reorder_syllables(buffer, &FinalOrder { plan, virama });
 }
@@ -54,12 +53,11 @@ fn order_syllable(
     virama: Option<u32>,
 )
     requires { buffer.old.have_output ≡ false }
-    ensures closed { buffer.new.have_output ≡ false }
-    ensures keeps { KeepsNumbers buffer.old buffer.new }
+    ensures { NumbersStay buffer.old buffer.new }
 {
     let base = find_base(buffer, range, plan, virama);
     let place = move_matras(buffer, range, base.place, plan);
-    let place = move_reph(buffer, range, place, plan);
+    let place = move_reph(buffer, range, place, plan.configuration.reph_position);
     move_pref(buffer, range, &FinalBase { place, ..base }, plan);
     mark_start_of_word(buffer, range.start, plan.masks.init);
 }
@@ -72,8 +70,7 @@ fn find_base(
     virama: Option<u32>,
 ) -> FinalBase
     requires { buffer.old.have_output ≡ false }
-    ensures closed { buffer.new.have_output ≡ false }
-    ensures keeps { KeepsClusters buffer.old buffer.new }
+    ensures { StaysClosed buffer.old buffer.new }
 {
     find_base_in(buffer.info_slice_mut(), range, plan, virama)
 }
@@ -115,8 +112,7 @@ fn find_halants(syllable: &mut [hb_glyph_info_t], virama: u32)
 #[tactic(auto, using(shaping_buffer::proofs::ClosedKeepsLemmas::kept))]
 fn mark_start_of_word(buffer: &mut hb_buffer_t, start: usize, mask: u32)
     requires { buffer.old.have_output ≡ false }
-    ensures closed { buffer.new.have_output ≡ false }
-    ensures keeps { KeepsClusters buffer.old buffer.new }
+    ensures { StaysClosed buffer.old buffer.new }
 {
     let infos = buffer.info();
     if !infos
@@ -135,8 +131,7 @@ fn mark_start_of_word(buffer: &mut hb_buffer_t, start: usize, mask: u32)
 /// Gives the item at a place the features of a mask.
 fn mask_one(buffer: &mut hb_buffer_t, place: usize, mask: u32)
     requires { buffer.old.have_output ≡ false }
-    ensures closed { buffer.new.have_output ≡ false }
-    ensures keeps { KeepsClusters buffer.old buffer.new }
+    ensures { StaysClosed buffer.old buffer.new }
 {
     add_mask(
         buffer.info_slice_mut(),

@@ -21,4 +21,3 @@ mod pref;
 mod reordering;
 mod reph;
 pub mod scripts;
-mod sorting;

@@ -1,8 +1,8 @@
 //! Vowel signs on the left, after the basic features: they move towards the base, behind the last halant that is seen.
 
 ghost use Rattle.std.specs.Prelude.{◌≡◌, false};
-ghost use Rattle.shaping_buffer.specs.KeepsClusters.{KeepsClusters};
-ghost use Rattle.script_syllables.specs.KeepsNumbers.{KeepsNumbers};
+ghost use Rattle.shaping_passes.specs.Left.{StaysClosed};
+ghost use Rattle.script_syllables.specs.Left.{NumbersStay};
 
 use crate::item::is_matra_or_halant;
 use crate::plan::IndicPlan;
@@ -24,8 +24,7 @@ pub(crate) fn move_matras(
     plan: &IndicPlan,
 ) -> usize
     requires { buffer.old.have_output ≡ false }
-    ensures closed { buffer.new.have_output ≡ false }
-    ensures keeps { KeepsNumbers buffer.old buffer.new }
+    ensures { NumbersStay buffer.old buffer.new }
 {
     let items = syllable(buffer.info(), range);
     if items.len() < 2 || base == 0 {
@@ -87,8 +86,7 @@ fn halant_place(syllable: &[hb_glyph_info_t], last: usize) -> usize {
 #[tactic(auto, using(script_syllables::proofs::NumbersLemmas::numbered))]
 fn move_all(buffer: &mut hb_buffer_t, range: &Range<usize>, base: usize, to: usize) -> usize
     requires { buffer.old.have_output ≡ false }
-    ensures closed { buffer.new.have_output ≡ false }
-    ensures keeps { KeepsNumbers buffer.old buffer.new }
+    ensures { NumbersStay buffer.old buffer.new }
 {
     let mut base = base;
     let mut new = to;
@@ -109,8 +107,7 @@ fn move_all(buffer: &mut hb_buffer_t, range: &Range<usize>, base: usize, to: usi
 #[tactic(auto, using(script_syllables::proofs::NumbersLemmas::numbered))]
 fn move_one(buffer: &mut hb_buffer_t, range: &Range<usize>, places: &Range<usize>, base: usize)
     requires { buffer.old.have_output ≡ false }
-    ensures closed { buffer.new.have_output ≡ false }
-    ensures keeps { KeepsNumbers buffer.old buffer.new }
+    ensures { NumbersStay buffer.old buffer.new }
 {
     let start = range.start.saturating_add(places.start);
     let end = range.start.saturating_add(places.end).saturating_add(1);
@@ -122,8 +119,7 @@ fn move_one(buffer: &mut hb_buffer_t, range: &Range<usize>, places: &Range<usize
 #[tactic(auto, using(shaping_buffer::proofs::ClosedKeepsLemmas::kept))]
 fn merge_from_first(buffer: &mut hb_buffer_t, range: &Range<usize>, base: usize)
     requires { buffer.old.have_output ≡ false }
-    ensures closed { buffer.new.have_output ≡ false }
-    ensures keeps { KeepsClusters buffer.old buffer.new }
+    ensures { StaysClosed buffer.old buffer.new }
 {
     let first = syllable(buffer.info(), range)
         .iter()
@@ -137,8 +133,7 @@ fn merge_from_first(buffer: &mut hb_buffer_t, range: &Range<usize>, base: usize)
 /// Merges clusters from a place of a syllable up to its base.
 fn merge_to_base(buffer: &mut hb_buffer_t, range: &Range<usize>, place: usize, base: usize)
     requires { buffer.old.have_output ≡ false }
-    ensures closed { buffer.new.have_output ≡ false }
-    ensures keeps { KeepsClusters buffer.old buffer.new }
+    ensures { StaysClosed buffer.old buffer.new }
 {
     let start = range.start.saturating_add(place);
     let behind_base = range.start.saturating_add(base).saturating_add(1);

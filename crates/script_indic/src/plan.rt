@@ -2,9 +2,8 @@
 
 ghost use Rattle.std.specs.Prelude.{◌≡◌, true, false, IfOk};
 ghost use Rattle.std.specs.List.{list_any};
-ghost use Rattle.shaping_buffer.specs.KeepsClusters.{KeepsClusters};
-ghost use Rattle.script_syllables.specs.KeepsNumbers.{KeepsNumbers};
-ghost use Rattle.shaping_passes.specs.Refusals.{IsRefusal};
+ghost use Rattle.shaping_passes.specs.Left.{StaysClosed};
+ghost use Rattle.script_syllables.specs.Left.{NumbersStay, Reorders};
 ghost use Rattle.script_indic.specs.FinalBase as bases;
 ghost use Rattle.script_indic.specs.Scripts as scripts;
 
@@ -112,15 +111,13 @@ impl IndicPlan {
     #[tactic(auto, using(script_syllables::proofs::NumbersLemmas::numbered))]
     pub fn pause<F: FontForms>(
         &self,
+        pause: Pause,
         alloc: Global,
         buffer: &mut hb_buffer_t,
         font: &mut F,
-        pause: Pause,
     ) -> Result<bool, AllocError>
         requires { buffer.old.have_output ≡ false }
-        ensures closed { IfOk result (λ done. done ≡ true → buffer.new.have_output ≡ false) }
-        ensures refusal { IsRefusal false result buffer.new }
-        ensures keeps { KeepsNumbers buffer.old buffer.new }
+        ensures { Reorders result buffer.old buffer.new }
     {
         match pause {
             Pause::SetUpSyllables => {
@@ -139,8 +136,7 @@ impl IndicPlan {
     /// Finds the syllables, before the first lookups.
     fn setup_syllables(&self, buffer: &mut hb_buffer_t)
         requires { buffer.old.have_output ≡ false }
-        ensures closed { buffer.new.have_output ≡ false }
-        ensures keeps { KeepsClusters buffer.old buffer.new }
+        ensures { StaysClosed buffer.old buffer.new }
     {
         let grammar = Grammar {
             machine: indic_machine(),
@@ -153,8 +149,7 @@ impl IndicPlan {
     /// Puts the glyphs of each syllable in the order in which they are seen, after the basic features.
     fn final_reordering<F: FontForms>(&self, buffer: &mut hb_buffer_t, font: &F)
         requires { buffer.old.have_output ≡ false }
-        ensures closed { buffer.new.have_output ≡ false }
-        ensures keeps { KeepsNumbers buffer.old buffer.new }
+        ensures { NumbersStay buffer.old buffer.new }
     {
         let virama = if has_parted_ligature(buffer.info()) {
             self.virama_glyph(font)

@@ -1,7 +1,7 @@
 //! A RA that stands before its base, after the basic features.
 
 ghost use Rattle.std.specs.Prelude.{◌≡◌, false};
-ghost use Rattle.script_syllables.specs.KeepsNumbers.{KeepsNumbers};
+ghost use Rattle.script_syllables.specs.Left.{NumbersStay};
 
 use crate::final_base::{FinalBase, masked_behind};
 use crate::item::is_matra_or_halant;
@@ -23,8 +23,7 @@ pub(crate) fn move_pref(
     plan: &IndicPlan,
 )
     requires { buffer.old.have_output ≡ false }
-    ensures closed { buffer.new.have_output ≡ false }
-    ensures keeps { KeepsNumbers buffer.old buffer.new }
+    ensures { NumbersStay buffer.old buffer.new }
 {
     let items = syllable(buffer.info(), range);
     let Some(old) = masked_behind(items, base.place, plan.masks.pref) else {

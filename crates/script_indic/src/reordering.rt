@@ -2,21 +2,21 @@
 
 ghost use Rattle.std.specs.Prelude.{◌≡◌, true, false, IfOk};
 ghost use Rattle.glyph_lists.specs.Clusters.{clusters};
-ghost use Rattle.shaping_buffer.specs.KeepsClusters.{KeepsClusters};
-ghost use Rattle.script_syllables.specs.KeepsNumbers.{KeepsNumbers, SameClusters};
-ghost use Rattle.shaping_passes.specs.Refusals.{IsRefusal};
+ghost use Rattle.script_syllables.specs.KeepsNumbers.{SameClusters};
+ghost use Rattle.shaping_passes.specs.Left.{StaysClosed};
+ghost use Rattle.script_syllables.specs.Left.{NumbersStay, NumbersStayIfOk, Reorders};
 
 use crate::base::{Base, find_base};
 use crate::initial_masks::{mask_pref, set_masks};
 use crate::initial_order::set_positions;
 use crate::plan::{BROKEN, ConsonantForms, IndicPlan};
-use crate::sorting::sort_syllable;
 use rb_common::script;
 use script_syllables::clusters::merge;
 use script_syllables::dotted_circle::{CircleKind, insert_dotted_circles};
 use script_syllables::font::{FontForms, FormFeature};
 use script_syllables::item::{is_halant, is_one, position, set_position};
 use script_syllables::moves::move_first;
+use script_syllables::sorting::sort_syllable;
 use script_syllables::syllables::{kind_at, syllable, within};
 use script_syllables::{Category, Position};
 use shaping_buffer::{hb_buffer_t, hb_glyph_info_t};
@@ -43,9 +43,7 @@ pub(crate) fn order_initially<F: FontForms>(
     font: &mut F,
 ) -> Result<bool, AllocError>
     requires { buffer.old.have_output ≡ false }
-    ensures closed { IfOk result (λ done. done ≡ true → buffer.new.have_output ≡ false) }
-    ensures refusal { IsRefusal false result buffer.new }
-    ensures keeps { KeepsNumbers buffer.old buffer.new }
+    ensures { Reorders result buffer.old buffer.new }
 {
     if let Some(virama) = plan.virama_glyph(font) {
         place_consonants(buffer, plan.forms, font, virama);
@@ -66,8 +64,7 @@ fn order_syllables<F: FontForms>(
     font: &mut F,
 ) -> Result<(), AllocError>
     requires { buffer.old.have_output ≡ false }
-    ensures closed { IfOk result (λ _. buffer.new.have_output ≡ false) }
-    ensures keeps { KeepsNumbers buffer.old buffer.new }
+    ensures { NumbersStayIfOk result buffer.old buffer.new }
 {
     let mut start = 0;
     for _turn in 0..buffer.len() {
@@ -96,8 +93,7 @@ fn place_consonants<F: FontForms>(
     virama: u32,
 )
     requires { buffer.old.have_output ≡ false }
-    ensures closed { buffer.new.have_output ≡ false }
-    ensures keeps { KeepsClusters buffer.old buffer.new }
+    ensures { StaysClosed buffer.old buffer.new }
 {
     place_all(buffer.info_slice_mut(), forms, font, virama);
 }
@@ -156,15 +152,14 @@ fn order_syllable<F: FontForms>(
     font: &mut F,
 ) -> Result<(), AllocError>
     requires { buffer.old.have_output ≡ false }
-    ensures closed { IfOk result (λ _. buffer.new.have_output ≡ false) }
-    ensures keeps { KeepsNumbers buffer.old buffer.new }
+    ensures { NumbersStayIfOk result buffer.old buffer.new }
 {
     put_joiner_first(buffer, range, plan);
     let base = find_base(syllable(buffer.info(), range), plan, |glyphs| {
         font.would_substitute(FormFeature::Rphf, glyphs)
     });
     place_items(buffer, range, &base, plan);
-    let base = sort_syllable(alloc, buffer, range, plan)?;
+    let base = sort_syllable(alloc, buffer, range, plan.is_old_spec)?;
     mask_items(buffer, range, base, plan, font);
     Ok(())
 }
@@ -172,8 +167,7 @@ fn order_syllable<F: FontForms>(
 /// Gives each item of a syllable its position.
 fn place_items(buffer: &mut hb_buffer_t, range: &Range<usize>, base: &Base, plan: &IndicPlan)
     requires { buffer.old.have_output ≡ false }
-    ensures closed { buffer.new.have_output ≡ false }
-    ensures keeps { KeepsNumbers buffer.old buffer.new }
+    ensures { NumbersStay buffer.old buffer.new }
 {
     place_in(buffer.info_slice_mut(), range, base, plan);
 }
@@ -196,8 +190,7 @@ fn mask_items<F: FontForms>(
     font: &mut F,
 )
     requires { buffer.old.have_output ≡ false }
-    ensures closed { buffer.new.have_output ≡ false }
-    ensures keeps { KeepsClusters buffer.old buffer.new }
+    ensures { StaysClosed buffer.old buffer.new }
 {
     mask_in(buffer.info_slice_mut(), range, base, plan, font);
 }
@@ -222,8 +215,7 @@ fn mask_in<F: FontForms>(
 #[tactic(auto, using(script_syllables::proofs::NumbersLemmas::numbered))]
 fn put_joiner_first(buffer: &mut hb_buffer_t, range: &Range<usize>, plan: &IndicPlan)
     requires { buffer.old.have_output ≡ false }
-    ensures closed { buffer.new.have_output ≡ false }
-    ensures keeps { KeepsNumbers buffer.old buffer.new }
+    ensures { NumbersStay buffer.old buffer.new }
 {
     if plan.is(script::KANNADA) && begins_with_joiner(syllable(buffer.info(), range)) {
         let start = range.start.saturating_add(1);

@@ -1,11 +1,10 @@
 //! Rephs, after the basic features: from the start of a syllable they move to where they are seen.
 
 ghost use Rattle.std.specs.Prelude.{◌≡◌, false};
-ghost use Rattle.script_syllables.specs.KeepsNumbers.{KeepsNumbers};
+ghost use Rattle.script_syllables.specs.Left.{NumbersStay};
 
 use crate::configuration::RephPosition;
 use crate::item::is_matra;
-use crate::plan::IndicPlan;
 use script_syllables::clusters::merge;
 use script_syllables::item::{category, is_halant, is_joiner, is_whole_ligature, position};
 use script_syllables::moves::move_first;
@@ -14,23 +13,22 @@ use script_syllables::{Category, Position};
 use shaping_buffer::{hb_buffer_t, hb_glyph_info_t};
 use std::ops::Range;
 
-/// Moves the reph of a syllable. Where the base is then.
+/// Moves the reph of a syllable to where it is wanted. Where the base is then.
 #[tactic(auto, using(script_syllables::proofs::NumbersLemmas::numbered))]
 pub(crate) fn move_reph(
     buffer: &mut hb_buffer_t,
     range: &Range<usize>,
     base: usize,
-    plan: &IndicPlan,
+    wanted: RephPosition,
 ) -> usize
     requires { buffer.old.have_output ≡ false }
-    ensures closed { buffer.new.have_output ≡ false }
-    ensures keeps { KeepsNumbers buffer.old buffer.new }
+    ensures { NumbersStay buffer.old buffer.new }
 {
     let items = syllable(buffer.info(), range);
     if items.len() < 2 || !begins_with_reph(items) {
         return base;
     }
-    let place = new_place(items, base, plan.configuration.reph_position);
+    let place = new_place(items, base, wanted);
     let end = range.start.saturating_add(place).saturating_add(1);
     merge(buffer, range.start, end);
     move_first(buffer, range.start, end);

@@ -3,19 +3,18 @@
 ghost use Rattle.std.specs.Prelude.{◌≡◌, ◌≤◌, false, true, IfOk, IsSome};
 ghost use Rattle.std.specs.Prelude.{ℕ, None, Some, option_map, unwrap_or, if◌then◌else◌};
 ghost use Rattle.std.specs.Option.{option_or};
-ghost use Rattle.shaping_buffer.specs.KeepsClusters.{KeepsClusters};
 ghost use Rattle.rb_glyph.specs.Hangul.{HangulComposes};
 ghost use Rattle.rb_glyph.specs.Tables.{composition_of};
 ghost use Rattle.ucd_normal.specs.Composition.{composite};
 ghost use Rattle.ucd_normal.specs.Decomposition.{canonical_mapping};
 ghost use Rattle.unicode_tables.specs.Mapping.{parts_of};
 ghost use Rattle.script_letters.specs.Hebrew.{presentation_forms};
+ghost use Rattle.shaping_passes.specs.Left.{Closes, StaysClosed};
 ghost use Rattle.script_shapers.specs.Shapers.{shaper_of, other_shaper_of, syllabic_shaper_of, is_arabic, myanmar_of, indic_of};
 ghost use Rattle.script_shapers.specs.Shapers.{universal_of, is_for_others, wanted_script, mode_of};
 ghost use Rattle.script_shapers.specs.Shapers.{width_of, has_fallback, has_own_composite, own_composite, other_composite};
 ghost use Rattle.script_shapers.specs.Shapers.{has_own_parts, own_parts, shaper_with_morx};
 ghost use Rattle.script_shapers.specs.declared.shaper.ScriptShaper.TheVariants.{Default, Hebrew};
-ghost use Rattle.shaping_passes.specs.Refusals.{IsRefusal};
 
 use crate::plan::ScriptPlan;
 use rb_common::{Direction, Script, Tag, script};
@@ -190,8 +189,7 @@ impl ScriptShaper {
     #[tactic(auto, using(shaping_buffer::proofs::ClosedKeepsLemmas::kept))]
     pub fn reorder_marks(self, buffer: &mut hb_buffer_t, start: usize, end: usize)
         requires { buffer.old.have_output ≡ false }
-        ensures closed { buffer.new.have_output ≡ false }
-        ensures keeps { KeepsClusters buffer.old buffer.new }
+        ensures { StaysClosed buffer.old buffer.new }
     {
         match self {
             Arabic => arabic::marks::reorder_marks(buffer, start, end),
@@ -308,9 +306,7 @@ impl ScriptPlan {
         font: &F,
     ) -> Result<bool, AllocError>
         requires { buffer.old.have_output ≡ false }
-        ensures closed { IfOk result (λ done. done ≡ true → buffer.new.have_output ≡ false) }
-        ensures refusal { IsRefusal false result buffer.new }
-        ensures keeps { KeepsClusters buffer.old buffer.new }
+        ensures { Closes result buffer.old buffer.new }
     {
         match self.shaper {
             Hangul => prepare(buffer, font),
@@ -332,8 +328,7 @@ impl ScriptPlan {
     #[tactic(auto, using(shaping_buffer::proofs::ClosedKeepsLemmas::kept))]
     pub fn setup_masks(&self, buffer: &mut hb_buffer_t)
         requires { buffer.old.have_output ≡ false }
-        ensures closed { buffer.new.have_output ≡ false }
-        ensures keeps { KeepsClusters buffer.old buffer.new }
+        ensures { StaysClosed buffer.old buffer.new }
     {
         match self.shaper {
             Arabic | UniversalJoining => {
@@ -349,8 +344,7 @@ impl ScriptPlan {
     #[tactic(auto, using(shaping_buffer::proofs::ClosedKeepsLemmas::kept))]
     fn form_letters(&self, buffer: &mut hb_buffer_t)
         requires { buffer.old.have_output ≡ false }
-        ensures closed { buffer.new.have_output ≡ false }
-        ensures keeps { KeepsClusters buffer.old buffer.new }
+        ensures { StaysClosed buffer.old buffer.new }
     {
         arabic::masks::join_letters(buffer);
         if self.is_mongolian {
@@ -362,8 +356,7 @@ impl ScriptPlan {
     #[tactic(auto, using(shaping_buffer::proofs::ClosedKeepsLemmas::kept))]
     pub fn record_stch(&self, buffer: &mut hb_buffer_t)
         requires { buffer.old.have_output ≡ false }
-        ensures closed { buffer.new.have_output ≡ false }
-        ensures keeps { KeepsClusters buffer.old buffer.new }
+        ensures { StaysClosed buffer.old buffer.new }
     {
         if self.has_stch {
             record_pieces(buffer);
@@ -381,10 +374,8 @@ impl ScriptPlan {
     ) -> Result<bool, AllocError>
         requires closed { buffer.old.have_output ≡ false }
         requires placed { IsSome buffer.old.positions }
-        ensures closed { IfOk result (λ done. done ≡ true → buffer.new.have_output ≡ false) }
         ensures placed { IfOk result (λ done. done ≡ true → IsSome buffer.new.positions) }
-        ensures refusal { IsRefusal false result buffer.new }
-        ensures keeps { KeepsClusters buffer.old buffer.new }
+        ensures closes { Closes result buffer.old buffer.new }
     {
         if self.shaper == Arabic {
             stretch(alloc, buffer, font)

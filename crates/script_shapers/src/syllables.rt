@@ -1,10 +1,9 @@
 //! How a text that is written in syllables is shaped by a font.
 
 ghost use Rattle.std.specs.Prelude.{◌≡◌, true, false, IfOk};
-ghost use Rattle.shaping_buffer.specs.KeepsClusters.{KeepsClusters};
+ghost use Rattle.shaping_passes.specs.Left.{StaysClosed};
+ghost use Rattle.script_syllables.specs.Left.{Reorders};
 ghost use Rattle.script_shapers.specs.Syllables.{HasForms, is_plan_of};
-ghost use Rattle.script_syllables.specs.KeepsNumbers.{KeepsNumbers};
-ghost use Rattle.shaping_passes.specs.Refusals.{IsRefusal};
 
 use crate::shaper::ScriptShaper;
 use ot_map::{LayoutPlan, Pause};
@@ -35,8 +34,7 @@ impl SyllablePlan {
     #[tactic(auto, using(shaping_buffer::proofs::ClosedKeepsLemmas::kept))]
     pub fn setup_masks(&self, buffer: &mut hb_buffer_t)
         requires { buffer.old.have_output ≡ false }
-        ensures closed { buffer.new.have_output ≡ false }
-        ensures keeps { KeepsClusters buffer.old buffer.new }
+        ensures { StaysClosed buffer.old buffer.new }
     {
         match self {
             SyllablePlan::Indic(_) | SyllablePlan::Khmer(_) | SyllablePlan::Myanmar => {
@@ -57,15 +55,13 @@ impl SyllablePlan {
         pause: Pause,
     ) -> Result<bool, AllocError>
         requires { buffer.old.have_output ≡ false }
-        ensures closed { IfOk result (λ done. done ≡ true → buffer.new.have_output ≡ false) }
-        ensures refusal { IsRefusal false result buffer.new }
-        ensures keeps { KeepsNumbers buffer.old buffer.new }
+        ensures { Reorders result buffer.old buffer.new }
     {
         match self {
-            SyllablePlan::Indic(plan) => plan.pause(alloc, buffer, font, pause),
+            SyllablePlan::Indic(plan) => plan.pause(pause, alloc, buffer, font),
             SyllablePlan::Khmer(plan) => script_universal::pause(plan, buffer, font, pause),
             SyllablePlan::Myanmar => script_universal::pause(&MyanmarShaper, buffer, font, pause),
-            SyllablePlan::Universal(plan) => plan.pause(buffer, font, pause),
+            SyllablePlan::Universal(plan) => plan.pause(pause, buffer, font),
             SyllablePlan::None => Ok(true),
         }
     }
@@ -103,8 +99,7 @@ pub fn syllable_plan(
 /// Lets each character of an Indic script, of Khmer or of Myanmar keep its category and its position.
 fn set_categories(buffer: &mut hb_buffer_t)
     requires { buffer.old.have_output ≡ false }
-    ensures closed { buffer.new.have_output ≡ false }
-    ensures keeps { KeepsClusters buffer.old buffer.new }
+    ensures { StaysClosed buffer.old buffer.new }
 {
     item::set_categories(buffer.info_slice_mut());
 }
@@ -112,8 +107,7 @@ fn set_categories(buffer: &mut hb_buffer_t)
 /// Lets each character of a script of the universal shaper keep its category.
 fn set_universal_categories(buffer: &mut hb_buffer_t)
     requires { buffer.old.have_output ≡ false }
-    ensures closed { buffer.new.have_output ≡ false }
-    ensures keeps { KeepsClusters buffer.old buffer.new }
+    ensures { StaysClosed buffer.old buffer.new }
 {
     universal::item::set_categories(buffer.info_slice_mut());
 }

@@ -1,11 +1,19 @@
 -- The numbers of categories and positions, and the bytes in which items keep them.
-use Rattle.std.proofs.Common.{◌≡◌, ℕ, ◌*◌, ◌^◌, ◌<◌, bit_and, bit_or, eqb, refl, sym, ap, ◌∙◌, arith}
+use Rattle.std.proofs.Common.{◌≡◌, ℕ, ◌+◌, ◌*◌, ◌^◌, ◌<◌, ◌≤◌, Bool, true, false, not, List, [], length, drop}
+use Rattle.std.proofs.Common.{bit_and, bit_or, eqb, refl, sym, ap, ◌∙◌, arith, inl, inr}
+use Rattle.std.proofs.lemmas.Bool.{cases_lt}
+use Rattle.std.proofs.lemmas.List.{drop-drop, drop_all}
+use Rattle.std.proofs.lemmas.List.Sums.{prefix_len-drop_all, prefix_len-drop_no, prefix_len_stops}
+use Rattle.std.specs.List.{prefix_len}
 use denote.Enum.Bare.{sameb}
 use denote.Enum.Declared.{tag_of}
+use Rattle.glyph_lists.specs.Clusters.{zero_glyph}
 use Rattle.rb_glyph.specs.Fields.{with_field}
+use Rattle.rb_glyph.specs.declared.info.hb_glyph_info_t.{hb_glyph_info_t}
 use Rattle.std.proofs.lemmas.Nat.{shl_whole}
 use Rattle.rb_glyph.proofs.FieldLemmas.{bit_or-mask}
 use Rattle.script_syllables.specs.Category.{number_of_category, number_of_position, same_category, same_position}
+use Rattle.script_syllables.specs.Item.{is_passed_over, passed_count}
 use Rattle.script_syllables.specs.contracts.category.Category as category
 use Rattle.script_syllables.specs.contracts.category.position.Position as position
 use Rattle.script_syllables.specs.declared.category.Category.{Category}
@@ -85,3 +93,30 @@ pub bit_or-byte : (word byte : ℕ) → word < 2 ^ 32 → byte < 256
 bit_or-byte word byte small fits =
     ap (bit_or (bit_and word 0xFF00FFFF)) (sym (shl_whole byte 8 16 32 fits (omega arith)))
     ∙ bit_or-mask word 16 8 byte (omega arith) small fits
+
+-- ---- items that are passed over
+
+prefix_len-none_left : (test : hb_glyph_info_t → Bool) (l : List hb_glyph_info_t)
+    → prefix_len test (drop (prefix_len test l) l) ≡ 0
+prefix_len-none_left test l =
+    let n = prefix_len test l in
+    elim (cases_lt n (length l)) [
+      | inl some ↦ prefix_len-drop_no test l n zero_glyph some (prefix_len_stops test l zero_glyph some)
+      | inr none ↦ prefix_len-drop_all test l n none
+    ]
+
+-- none is left behind those
+pub passed_count-behind : (passes : Bool) (l : List hb_glyph_info_t) (start : ℕ)
+    → passed_count passes (drop (start + passed_count passes (drop start l)) l) ≡ 0
+passed_count-behind false l start = refl
+passed_count-behind true l start =
+    let test : hb_glyph_info_t → Bool = λ g. not (not (is_passed_over g)) in
+    ap (prefix_len test) (sym (drop-drop (prefix_len test (drop start l)) start l)) ∙ prefix_len-none_left test (drop start l)
+
+passed_count-nil : (passes : Bool) → passed_count passes [] ≡ 0
+passed_count-nil false = refl
+passed_count-nil true = refl
+
+pub passed_count-drop_all : (passes : Bool) (l : List hb_glyph_info_t) (start : ℕ) → length l ≤ start
+    → passed_count passes (drop start l) ≡ 0
+passed_count-drop_all passes l start past = ap (passed_count passes) (drop_all start l past) ∙ passed_count-nil passes

@@ -37,6 +37,10 @@ with_position p g = with_shaper_byte (number_of_position p) g
 abbrev pub is_passed_over : hb_glyph_info_t → Bool
 is_passed_over g = nat_lt 0 (shaper_byte g)
 
+-- how many of the first items they pass over, if they do
+abbrev pub passed_count : Bool → List hb_glyph_info_t → ℕ
+passed_count passes l = if passes then position_or_len (λ g. not (is_passed_over g)) l else 0
+
 -- ---- what lookups made of the glyph: another one (16), a ligature (32), several (64)
 
 abbrev pub has_property : ℕ → hb_glyph_info_t → Bool

@@ -3,6 +3,7 @@ pub mod Circle
 pub mod Composition
 pub mod Item
 pub mod KeepsNumbers
+pub mod Left
 pub mod Machines
 pub mod Moves
 pub mod Placed

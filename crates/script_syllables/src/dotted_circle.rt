@@ -3,6 +3,7 @@
 ghost use Rattle.std.specs.Prelude.{◌≡◌, ◌<◌, ◌≤◌, ◌++◌, true, false, length, drop, IfOk, IfSome, None};
 ghost use Rattle.std.specs.List.{prefix_len};
 ghost use Rattle.shaping_buffer.specs.ClusterStep.{both};
+ghost use Rattle.shaping_passes.specs.Left.{HasCurrent};
 ghost use Rattle.script_syllables.specs.Circle as circles;
 ghost use Rattle.script_syllables.specs.Circle.{HasSides, IsRead, with_circles};
 ghost use Rattle.script_syllables.specs.KeepsNumbers.{KeepsNumbers};
@@ -95,8 +96,7 @@ fn put_circles(buffer: &mut hb_buffer_t, circle: &Circle) -> Result<bool, AllocE
 /// last broken syllable; `None` where a call was refused.
 #[tactic(auto, using(crate::proofs::NumbersLemmas::numbered))]
 fn read_next(buffer: &mut hb_buffer_t, circle: &Circle, last: u8) -> Result<Option<u8>, AllocError>
-    requires opened { buffer.old.have_output ≡ true }
-    requires glyph { 0 < length buffer.old.input }
+    requires { HasCurrent buffer.old }
     ensures reads { IfOk result (λ read. IfSome read
         (λ next. IsRead circle.now (with_circles circle.now last buffer.old.input) buffer.old next buffer.new)) }
     ensures opened { IfOk result (λ _. buffer.new.have_output ≡ true) }
@@ -115,8 +115,7 @@ fn read_next(buffer: &mut hb_buffer_t, circle: &Circle, last: u8) -> Result<Opti
 /// Reads the rephs of a broken syllable, or where it has none its first item, and puts the circle out.
 #[tactic(auto, using(crate::proofs::NumbersLemmas::numbered))]
 fn read_broken(buffer: &mut hb_buffer_t, circle: &Circle) -> Result<Option<u8>, AllocError>
-    requires opened { buffer.old.have_output ≡ true }
-    requires glyph { 0 < length buffer.old.input }
+    requires { HasCurrent buffer.old }
     ensures reads { IfOk result (λ read. IfSome read
         (λ next. IsRead circle.now (circles.first_circled circle.now buffer.old.input) buffer.old next buffer.new)) }
     ensures opened { IfOk result (λ _. buffer.new.have_output ≡ true) }
@@ -170,8 +169,7 @@ fn is_reph(info: &hb_glyph_info_t, syllable: u8, repha: Option<u8>) -> bool
 /// Reads so many rephs, and puts a circle out behind them, in the cluster and with the mask of the first item.
 #[tactic(auto, using(crate::proofs::NumbersLemmas::numbered))]
 fn put_circle(buffer: &mut hb_buffer_t, circle: &Circle, rephs: usize) -> Result<bool, AllocError>
-    requires opened { buffer.old.have_output ≡ true }
-    requires glyph { 0 < length buffer.old.input }
+    requires current { HasCurrent buffer.old }
     requires rephs { rephs ≤ length buffer.old.input }
     ensures puts { IfOk result (λ done. done ≡ true → HasSides
         (buffer.old.out ++ circles.circle_behind circle.now rephs buffer.old.input) (drop rephs buffer.old.input) buffer.new) }

@@ -1,7 +1,9 @@
 //! How the first syllable of a list is found.
 
-ghost use Rattle.std.specs.Prelude.{◌≡◌};
+ghost use Rattle.std.specs.Prelude.{◌≡◌, ◌≤◌, ◌+◌, not, drop, length};
+ghost use Rattle.std.specs.List.{position_or_len};
 ghost use Rattle.glyph_lists.specs.Clusters.{clusters};
+ghost use Rattle.script_syllables.specs.Item as items;
 
 use crate::item::{category_byte, is_passed_over};
 use crate::machine::Machine;
@@ -34,24 +36,35 @@ impl<'a> Grammar<'a> {
     /// Each item that was read keeps the state in which it was, as the number of its syllable. Behind the longest one nothing ended in
     /// that state, so a later reading that comes by in the same one stops there: a text is not read again for each of its items.
     pub(crate) fn first_syllable(&self, infos: &mut [hb_glyph_info_t]) -> Syllable
-        ensures { clusters infos.new ≡ clusters infos.old }
+        ensures passed { items.passed_count self.now.passes_over (drop result.length infos.new) ≡ 0 }
+        ensures same { clusters infos.new ≡ clusters infos.old }
     {
         let found = self.longest(infos);
-        let passed = self.passed_count(infos.get(found.length..).unwrap_or(&[]));
         Syllable {
-            length: found.length.saturating_add(passed),
+            length: self.behind_passed(infos, found.length),
             ..found
         }
     }
 
-    /// How many of the first items are passed over.
-    pub(crate) fn passed_count(&self, infos: &[hb_glyph_info_t]) -> usize {
-        if !self.passes_over {
-            return 0;
+    /// The place behind the items that are passed over from a place on.
+    fn behind_passed(&self, infos: &[hb_glyph_info_t], start: usize) -> usize
+        ensures { result ≡ start + items.passed_count self.now.passes_over (drop start infos.now) }
+    {
+        match infos.get(start..) {
+            Some(behind) => start + self.passed_count(behind),
+            None => start,
         }
-        match infos.iter().position(|info| !is_passed_over(info)) {
-            Some(count) => count,
-            None => infos.len(),
+    }
+
+    /// How many of the first items are passed over.
+    pub(crate) fn passed_count(&self, infos: &[hb_glyph_info_t]) -> usize
+        ensures is { result ≡ items.passed_count self.now.passes_over infos.now }
+        ensures within { result ≤ length infos.now }
+    {
+        if self.passes_over {
+            passed_items(infos)
+        } else {
+            0
         }
     }
 
@@ -83,4 +96,17 @@ impl<'a> Grammar<'a> {
         }
         found
     }
+}
+
+/// How many of the first items are marked.
+fn passed_items(infos: &[hb_glyph_info_t]) -> usize
+    ensures is { result ≡ position_or_len (λ g. not (items.is_passed_over g)) infos.now }
+    ensures within { result ≤ length infos.now }
+{
+    for place in 0..infos.len() {
+        if !is_passed_over(&infos[place]) {
+            return place;
+        }
+    }
+    infos.len()
 }

@@ -2,7 +2,7 @@
 
 ghost use Rattle.std.specs.Prelude.{◌≡◌, false};
 ghost use Rattle.std.specs.List.Sorted.{IsPermutation};
-ghost use Rattle.script_syllables.specs.KeepsNumbers.{KeepsNumbers};
+ghost use Rattle.script_syllables.specs.Left.{NumbersStay};
 ghost use Rattle.script_syllables.specs.Moves.{first_behind, last_before, turned};
 
 use shaping_buffer::hb_buffer_t;
@@ -11,8 +11,7 @@ use shaping_buffer::hb_buffer_t;
 pub fn move_first(buffer: &mut hb_buffer_t, start: usize, end: usize)
     requires { buffer.old.have_output ≡ false }
     ensures is { buffer.new ≡ record buffer.old { input = first_behind start end buffer.old.input } }
-    ensures closed { buffer.new.have_output ≡ false }
-    ensures keeps { KeepsNumbers buffer.old buffer.new }
+    ensures stays { NumbersStay buffer.old buffer.new }
 {
     first_to_end(buffer.info_slice_mut(), start, end);
 }
@@ -21,8 +20,7 @@ pub fn move_first(buffer: &mut hb_buffer_t, start: usize, end: usize)
 pub fn move_last(buffer: &mut hb_buffer_t, start: usize, end: usize, count: usize)
     requires { buffer.old.have_output ≡ false }
     ensures is { buffer.new ≡ record buffer.old { input = last_before start end count buffer.old.input } }
-    ensures closed { buffer.new.have_output ≡ false }
-    ensures keeps { KeepsNumbers buffer.old buffer.new }
+    ensures stays { NumbersStay buffer.old buffer.new }
 {
     last_to_start(buffer.info_slice_mut(), start, end, count);
 }

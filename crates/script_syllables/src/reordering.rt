@@ -1,8 +1,7 @@
 //! The order of the glyphs of syllables: one walk over them, by each shaper's rules for a syllable.
 
 ghost use Rattle.std.specs.Prelude.{◌≡◌, true, false, IfOk};
-ghost use Rattle.script_syllables.specs.KeepsNumbers.{KeepsNumbers};
-ghost use Rattle.shaping_passes.specs.Refusals.{IsRefusal};
+ghost use Rattle.script_syllables.specs.Left.{NumbersStay, Reorders};
 
 use crate::dotted_circle::{CircleKind, insert_dotted_circles};
 use crate::font::FontForms;
@@ -15,8 +14,7 @@ pub trait SyllableOrder {
     /// Puts the glyphs of a syllable in order.
     fn reorder_syllable(&self, buffer: &mut hb_buffer_t, range: &Range<usize>)
         requires { buffer.old.have_output ≡ false }
-        ensures closed { buffer.new.have_output ≡ false }
-        ensures keeps { KeepsNumbers buffer.old buffer.new };
+        ensures { NumbersStay buffer.old buffer.new };
 }
 
 /// Puts a dotted circle into each broken syllable, and the glyphs of each syllable in order. `Ok(false)` where the text would become
@@ -29,9 +27,7 @@ pub fn reorder<F: FontForms, O: SyllableOrder>(
     order: &O,
 ) -> Result<bool, AllocError>
     requires { buffer.old.have_output ≡ false }
-    ensures closed { IfOk result (λ done. done ≡ true → buffer.new.have_output ≡ false) }
-    ensures refusal { IsRefusal false result buffer.new }
-    ensures keeps { KeepsNumbers buffer.old buffer.new }
+    ensures { Reorders result buffer.old buffer.new }
 {
     if !insert_dotted_circles(buffer, font, circle)? {
         return Ok(false);
@@ -44,8 +40,7 @@ pub fn reorder<F: FontForms, O: SyllableOrder>(
 #[tactic(auto, using(crate::proofs::NumbersLemmas::numbered))]
 pub fn reorder_syllables<O: SyllableOrder>(buffer: &mut hb_buffer_t, order: &O)
     requires { buffer.old.have_output ≡ false }
-    ensures closed { buffer.new.have_output ≡ false }
-    ensures keeps { KeepsNumbers buffer.old buffer.new }
+    ensures { NumbersStay buffer.old buffer.new }
 {
     let mut start = 0;
     for _turn in 0..buffer.len() {

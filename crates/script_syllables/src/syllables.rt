@@ -3,7 +3,7 @@
 ghost use Rattle.std.specs.Prelude.{◌≡◌, ◌<◌, ◌≤◌, ◌-◌, false, length};
 ghost use Rattle.glyph_lists.specs.Clusters.{clusters};
 ghost use Rattle.glyph_lists.specs.Groups.{group_end, share_cluster};
-ghost use Rattle.shaping_buffer.specs.KeepsClusters.{KeepsClusters};
+ghost use Rattle.shaping_passes.specs.Left.{StaysClosed};
 ghost use Rattle.script_syllables.specs.Item.{items_between, kind_at, syllable_kind};
 
 use crate::grammar::Grammar;
@@ -18,8 +18,7 @@ pub(crate) const NO_KIND: u8 = 15;
 #[tactic(auto, using(shaping_buffer::proofs::ClosedKeepsLemmas::kept))]
 pub fn find_syllables(buffer: &mut hb_buffer_t, grammar: &Grammar)
     requires { buffer.old.have_output ≡ false }
-    ensures closed { buffer.new.have_output ≡ false }
-    ensures keeps { KeepsClusters buffer.old buffer.new }
+    ensures { StaysClosed buffer.old buffer.new }
 {
     if number_items(buffer, grammar) {
         buffer.scratch_flags = buffer.scratch_flags | HB_BUFFER_SCRATCH_FLAG_HAS_BROKEN_SYLLABLE;
@@ -30,8 +29,7 @@ pub fn find_syllables(buffer: &mut hb_buffer_t, grammar: &Grammar)
 /// Lets each item keep the number and the kind of its syllable. Whether one is broken.
 fn number_items(buffer: &mut hb_buffer_t, grammar: &Grammar) -> bool
     requires { buffer.old.have_output ≡ false }
-    ensures closed { buffer.new.have_output ≡ false }
-    ensures keeps { KeepsClusters buffer.old buffer.new }
+    ensures { StaysClosed buffer.old buffer.new }
 {
     number_syllables(buffer.info_slice_mut(), grammar)
 }
@@ -72,8 +70,7 @@ fn set_syllable(infos: &mut [hb_glyph_info_t], start: usize, end: usize, number:
 #[tactic(auto, using(shaping_buffer::proofs::ClosedKeepsLemmas::kept))]
 fn flag_syllables(buffer: &mut hb_buffer_t)
     requires { buffer.old.have_output ≡ false }
-    ensures closed { buffer.new.have_output ≡ false }
-    ensures keeps { KeepsClusters buffer.old buffer.new }
+    ensures { StaysClosed buffer.old buffer.new }
 {
     let mut start = 0;
     for _turn in 0..buffer.len() {
@@ -91,8 +88,7 @@ fn flag_syllables(buffer: &mut hb_buffer_t)
 #[tactic(auto, using(shaping_buffer::proofs::ClosedKeepsLemmas::kept))]
 fn flag_syllable(buffer: &mut hb_buffer_t, start: usize, end: usize)
     requires { buffer.old.have_output ≡ false }
-    ensures closed { buffer.new.have_output ≡ false }
-    ensures keeps { KeepsClusters buffer.old buffer.new }
+    ensures { StaysClosed buffer.old buffer.new }
 {
     let end = cluster_end(buffer.info(), end);
     if start <= end && end <= buffer.len() {
@@ -119,6 +115,29 @@ pub fn syllable_end(infos: &[hb_glyph_info_t], start: usize) -> usize
     ensures until { result ≤ length infos.now }
 {
     group_end(infos, start, &|a, b| a.syllable() == b.syllable())
+}
+
+/// What is done with the items of a syllable.
+pub trait SyllableWork {
+    /// Does it with one.
+    fn work_on(&self, syllable: &mut [hb_glyph_info_t])
+        ensures { clusters syllable.new ≡ clusters syllable.old };
+}
+
+/// Does it with each syllable of a list.
+#[tactic(auto, using(crate::proofs::MovedLemmas::same))]
+pub fn work_on_all<W: SyllableWork>(infos: &mut [hb_glyph_info_t], work: &W)
+    ensures { clusters infos.new ≡ clusters infos.old }
+{
+    let mut start = 0;
+    for _turn in 0..infos.len() {
+        if start >= infos.len() {
+            break;
+        }
+        let end = syllable_end(infos, start);
+        work.work_on(&mut infos[start..end]);
+        start = end;
+    }
 }
 
 /// The kind of the syllable that an item is in.

@@ -5,6 +5,7 @@ ghost use Rattle.std.specs.Prelude.{◌≡◌, ◌<◌, true, false, length, IfO
 ghost use Rattle.glyph_lists.specs.Clusters.{clusters};
 ghost use Rattle.shaping_buffer.specs.KeepsClusters.{KeepsClusters};
 ghost use Rattle.shaping_passes.specs.Refusals.{IsRefusal};
+ghost use Rattle.shaping_passes.specs.Left.{HasCurrent, StaysOpen, StaysOpenAndTells};
 
 use crate::dotted_circle::DOTTED_CIRCLE;
 use crate::vowel_sequences::third_vowel;
@@ -44,9 +45,7 @@ pub fn part_vowels(buffer: &mut hb_buffer_t) -> Result<bool, AllocError>
 #[tactic(auto, using(shaping_buffer::proofs::ClosedKeepsLemmas::kept))]
 fn read_all(buffer: &mut hb_buffer_t) -> Result<bool, AllocError>
     requires { buffer.old.have_output ≡ true }
-    ensures opened { IfOk result (λ _. buffer.new.have_output ≡ true) }
-    ensures refusal { IsRefusal false result buffer.new }
-    ensures keeps { KeepsClusters buffer.old buffer.new }
+    ensures { StaysOpenAndTells false result buffer.old buffer.new }
 {
     for _turn in 0..buffer.len() {
         if buffer.lookahead_len() == 0 {
@@ -62,11 +61,8 @@ fn read_all(buffer: &mut hb_buffer_t) -> Result<bool, AllocError>
 /// Reads a character, or a sequence with a dotted circle before its last character.
 #[tactic(auto, using(shaping_buffer::proofs::ClosedKeepsLemmas::kept))]
 fn read_next(buffer: &mut hb_buffer_t) -> Result<bool, AllocError>
-    requires opened { buffer.old.have_output ≡ true }
-    requires glyph { 0 < length buffer.old.input }
-    ensures opened { IfOk result (λ _. buffer.new.have_output ≡ true) }
-    ensures refusal { IsRefusal false result buffer.new }
-    ensures keeps { KeepsClusters buffer.old buffer.new }
+    requires { HasCurrent buffer.old }
+    ensures { StaysOpenAndTells false result buffer.old buffer.new }
 {
     let Some(count) = sequence_length(buffer) else {
         return buffer.next_glyph();
@@ -89,8 +85,7 @@ fn read_next(buffer: &mut hb_buffer_t) -> Result<bool, AllocError>
 /// Marks a sequence at the cursor as unsafe to break: its last character alone has no dotted circle.
 fn keep_sequence(buffer: &mut hb_buffer_t, count: usize)
     requires { buffer.old.have_output ≡ true }
-    ensures opened { buffer.new.have_output ≡ true }
-    ensures keeps { KeepsClusters buffer.old buffer.new }
+    ensures { StaysOpen buffer.old buffer.new }
 {
     let start = buffer.idx();
     buffer.unsafe_to_break(Some(start), Some(start.saturating_add(count)));
@@ -142,8 +137,7 @@ fn is_mark(info: &hb_glyph_info_t) -> bool {
 /// Lets the last item that was put out begin a grapheme.
 fn begin_grapheme(buffer: &mut hb_buffer_t)
     requires { buffer.old.have_output ≡ true }
-    ensures opened { buffer.new.have_output ≡ true }
-    ensures keeps { KeepsClusters buffer.old buffer.new }
+    ensures { StaysOpen buffer.old buffer.new }
 {
     begin_with_last(buffer.out_info_mut());
 }

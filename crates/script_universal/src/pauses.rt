@@ -1,8 +1,7 @@
 //! What is done at the pauses of Khmer and of Myanmar: syllables are found, and put in order once.
 
 ghost use Rattle.std.specs.Prelude.{◌≡◌, true, false, IfOk};
-ghost use Rattle.script_syllables.specs.KeepsNumbers.{KeepsNumbers};
-ghost use Rattle.shaping_passes.specs.Refusals.{IsRefusal};
+ghost use Rattle.script_syllables.specs.Left.{Reorders};
 
 use ot_map::Pause;
 use script_syllables::dotted_circle::CircleKind;
@@ -38,9 +37,7 @@ pub fn pause<S: ReorderingShaper, F: FontForms>(
     pause: Pause,
 ) -> Result<bool, AllocError>
     requires { buffer.old.have_output ≡ false }
-    ensures closed { IfOk result (λ done. done ≡ true → buffer.new.have_output ≡ false) }
-    ensures refusal { IsRefusal false result buffer.new }
-    ensures keeps { KeepsNumbers buffer.old buffer.new }
+    ensures { Reorders result buffer.old buffer.new }
 {
     match pause {
         Pause::SetUpSyllables => {

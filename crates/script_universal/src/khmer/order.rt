@@ -2,8 +2,9 @@
 
 ghost use Rattle.std.specs.Prelude.{◌≡◌, false};
 ghost use Rattle.glyph_lists.specs.Clusters.{clusters};
-ghost use Rattle.shaping_buffer.specs.KeepsClusters.{KeepsClusters};
-ghost use Rattle.script_syllables.specs.KeepsNumbers.{KeepsNumbers};
+ghost use Rattle.shaping_passes.specs.Left.{StaysClosed};
+ghost use Rattle.script_syllables.specs.Left.{NumbersStay};
+ghost use Rattle.script_universal.specs.Order.{glyphs, glyphs_before};
 
 use crate::khmer::plan::KhmerPlan;
 use crate::pauses::BROKEN;
@@ -32,8 +33,8 @@ impl SyllableOrder for KhmerPlan {
 #[tactic(auto, using(script_syllables::proofs::NumbersLemmas::numbered))]
 fn order_syllable(buffer: &mut hb_buffer_t, range: &Range<usize>, plan: &KhmerPlan)
     requires { buffer.old.have_output ≡ false }
-    ensures closed { buffer.new.have_output ≡ false }
-    ensures keeps { KeepsNumbers buffer.old buffer.new }
+    ensures before { glyphs_before range.now.start buffer.new.input ≡ glyphs_before range.now.start buffer.old.input }
+    ensures stays { NumbersStay buffer.old buffer.new }
 {
     mask_behind_first(buffer, range, plan);
     let mut coengs = 0;
@@ -53,8 +54,8 @@ fn order_part(
     plan: &KhmerPlan,
 ) -> usize
     requires { buffer.old.have_output ≡ false }
-    ensures closed { buffer.new.have_output ≡ false }
-    ensures keeps { KeepsNumbers buffer.old buffer.new }
+    ensures before { glyphs_before range.now.start buffer.new.input ≡ glyphs_before range.now.start buffer.old.input }
+    ensures stays { NumbersStay buffer.old buffer.new }
 {
     match part_at(buffer.info(), place, range.end) {
         Part::VowelPre => {
@@ -62,8 +63,7 @@ fn order_part(
             coengs
         }
         Part::CoengRo if coengs <= MOST_COENGS => {
-            mask_coeng_ro(buffer, place, range.end, plan);
-            move_to_start(buffer, range.start, place, 2);
+            move_coeng_ro(buffer, range, place, plan);
             MOST_COENGS
         }
         Part::Coeng if coengs <= MOST_COENGS => coengs + 1,
@@ -74,8 +74,8 @@ fn order_part(
 /// Gives the items behind the first of a syllable the features of forms below, above and behind the base.
 fn mask_behind_first(buffer: &mut hb_buffer_t, range: &Range<usize>, plan: &KhmerPlan)
     requires { buffer.old.have_output ≡ false }
-    ensures closed { buffer.new.have_output ≡ false }
-    ensures keeps { KeepsClusters buffer.old buffer.new }
+    ensures glyphs { glyphs buffer.new.input ≡ glyphs buffer.old.input }
+    ensures stays { StaysClosed buffer.old buffer.new }
 {
     let mask = plan.blwf | plan.abvf | plan.pstf;
     let start = range.start.saturating_add(1);
@@ -110,18 +110,30 @@ fn part_at(infos: &[hb_glyph_info_t], place: usize, end: usize) -> Part {
     }
 }
 
+/// Moves a coeng and a RO from a place of a syllable to its start, with their masks.
+#[tactic(auto, using(script_syllables::proofs::NumbersLemmas::numbered))]
+fn move_coeng_ro(buffer: &mut hb_buffer_t, range: &Range<usize>, place: usize, plan: &KhmerPlan)
+    requires { buffer.old.have_output ≡ false }
+    ensures before { glyphs_before range.now.start buffer.new.input ≡ glyphs_before range.now.start buffer.old.input }
+    ensures stays { NumbersStay buffer.old buffer.new }
+{
+    mask_coeng_ro(buffer, place, range.end, plan);
+    move_to_start(buffer, range.start, place, 2);
+}
+
 /// Sets the masks of a coeng and a RO at a place, and of what stands behind them.
 fn mask_coeng_ro(buffer: &mut hb_buffer_t, place: usize, end: usize, plan: &KhmerPlan)
     requires { buffer.old.have_output ≡ false }
-    ensures closed { buffer.new.have_output ≡ false }
-    ensures keeps { KeepsClusters buffer.old buffer.new }
+    ensures glyphs { glyphs buffer.new.input ≡ glyphs buffer.old.input }
+    ensures stays { StaysClosed buffer.old buffer.new }
 {
     set_coeng_masks(buffer.info_slice_mut(), place, end, plan);
 }
 
 /// Sets these masks in a list.
 fn set_coeng_masks(infos: &mut [hb_glyph_info_t], place: usize, end: usize, plan: &KhmerPlan)
-    ensures { clusters infos.new ≡ clusters infos.old }
+    ensures glyphs { glyphs infos.new ≡ glyphs infos.old }
+    ensures same { clusters infos.new ≡ clusters infos.old }
 {
     let behind = place.saturating_add(2);
     add_mask(infos, place, behind, plan.pref);
@@ -132,8 +144,8 @@ fn set_coeng_masks(infos: &mut [hb_glyph_info_t], place: usize, end: usize, plan
 #[tactic(auto, using(script_syllables::proofs::NumbersLemmas::numbered))]
 fn move_to_start(buffer: &mut hb_buffer_t, start: usize, place: usize, count: usize)
     requires { buffer.old.have_output ≡ false }
-    ensures closed { buffer.new.have_output ≡ false }
-    ensures keeps { KeepsNumbers buffer.old buffer.new }
+    ensures before { glyphs_before start buffer.new.input ≡ glyphs_before start buffer.old.input }
+    ensures stays { NumbersStay buffer.old buffer.new }
 {
     let end = place.saturating_add(count);
     merge(buffer, start, end);

@@ -3,19 +3,20 @@
 ghost use Rattle.std.specs.Prelude.{◌≡◌, ◌<◌, ◌≤◌, false, length};
 ghost use Rattle.std.specs.List.Sorted.{IsPermutation};
 ghost use Rattle.glyph_lists.specs.Clusters.{clusters};
-ghost use Rattle.shaping_buffer.specs.KeepsClusters.{KeepsClusters};
-ghost use Rattle.script_syllables.specs.KeepsNumbers.{KeepsNumbers};
-ghost use Rattle.script_universal.specs.Order.{glyphs_before};
+ghost use Rattle.glyph_laws.specs.Cores.{cores};
+ghost use Rattle.shaping_passes.specs.Left.{StaysClosed};
+ghost use Rattle.script_syllables.specs.Left.{NumbersStay};
+ghost use Rattle.script_universal.specs.Order.{in_order, position_number};
 
 use crate::myanmar::plan::MyanmarShaper;
 use crate::myanmar::positions::set_positions;
 use crate::pauses::BROKEN;
 use script_syllables::item::position;
 use script_syllables::left_matras::turn_left_matras;
-use script_syllables::moves::move_last;
 use script_syllables::reordering::SyllableOrder;
 use script_syllables::syllables::{kind_at, within};
 use shaping_buffer::{hb_buffer_t, hb_glyph_info_t};
+use shaping_passes::normalization::{MarkClasses, order_run};
 use std::ops::Range;
 
 impl SyllableOrder for MyanmarShaper {
@@ -31,32 +32,53 @@ impl SyllableOrder for MyanmarShaper {
 #[tactic(auto, using(script_syllables::proofs::NumbersLemmas::numbered))]
 fn order_syllable(buffer: &mut hb_buffer_t, range: &Range<usize>)
     requires { buffer.old.have_output ≡ false }
-    ensures closed { buffer.new.have_output ≡ false }
-    ensures keeps { KeepsNumbers buffer.old buffer.new }
+    ensures { NumbersStay buffer.old buffer.new }
 {
     place_items(buffer, range);
     move_items(buffer, range);
     turn_matras(buffer, range);
 }
 
-/// Moves the items of a syllable into the order of their positions.
-#[tactic(auto, using(script_syllables::proofs::NumbersLemmas::numbered))]
+/// The positions of items, by which they are put in order as marks are by their classes.
+struct Positions;
+
+impl MarkClasses for Positions {
+    ghost use Rattle.std.specs.Prelude.{refl};
+    ghost use Rattle.script_universal.specs.Order.{position_number};
+
+    ghost classes = { λ _. position_number };
+
+    ghost alike = { λ _ g. refl };
+
+    fn class_of(&self, info: &hb_glyph_info_t) -> u16 {
+        position_number(info)
+    }
+}
+
+/// The number of an item's position.
+fn position_number(info: &hb_glyph_info_t) -> u16
+    ensures { result ≡ position_number info.now }
+{
+    u16::from(position(info) as u8)
+}
+
+/// Moves the items of a syllable into the order of their positions. Before one moves back, its cluster is merged with those that it passes.
+#[tactic(auto, using(crate::proofs::OrderLemmas::steps))]
 fn move_items(buffer: &mut hb_buffer_t, range: &Range<usize>)
     requires { buffer.old.have_output ≡ false }
-    ensures closed { buffer.new.have_output ≡ false }
-    ensures before { glyphs_before range.now.start buffer.new.input ≡ glyphs_before range.now.start buffer.old.input }
-    ensures keeps { KeepsNumbers buffer.old buffer.new }
+    ensures order { cores buffer.new.input ≡ in_order range.now.start range.now.end (cores buffer.old.input) }
+    ensures stays { StaysClosed buffer.old buffer.new }
 {
-    for place in range.start..range.end {
-        move_back(buffer, range.start, place);
+    if range.start >= range.end || range.end > buffer.len() {
+        return;
     }
+    order_run(buffer, &Positions, range.start, range.end);
 }
 
 /// Gives each item of a syllable its position.
 fn place_items(buffer: &mut hb_buffer_t, range: &Range<usize>)
     requires { buffer.old.have_output ≡ false }
-    ensures closed { buffer.new.have_output ≡ false }
-    ensures keeps { KeepsClusters buffer.old buffer.new }
+    ensures { StaysClosed buffer.old buffer.new }
 {
     place_in(buffer.info_slice_mut(), range);
 }
@@ -73,8 +95,7 @@ fn place_in(infos: &mut [hb_glyph_info_t], range: &Range<usize>)
 /// Puts vowel signs on the left of a syllable into reverse order.
 fn turn_matras(buffer: &mut hb_buffer_t, range: &Range<usize>)
     requires { buffer.old.have_output ≡ false }
-    ensures closed { buffer.new.have_output ≡ false }
-    ensures keeps { KeepsNumbers buffer.old buffer.new }
+    ensures { NumbersStay buffer.old buffer.new }
 {
     turn_in(buffer.info_slice_mut(), range);
 }
@@ -86,36 +107,4 @@ fn turn_in(infos: &mut [hb_glyph_info_t], range: &Range<usize>)
 {
     let range = within(range, infos.len());
     turn_left_matras(&mut infos[range.start..range.end]);
-}
-
-/// Moves an item behind the items before it whose positions come no later, all in one cluster.
-#[tactic(auto, using(script_syllables::proofs::NumbersLemmas::numbered))]
-fn move_back(buffer: &mut hb_buffer_t, start: usize, place: usize)
-    requires { buffer.old.have_output ≡ false }
-    ensures closed { buffer.new.have_output ≡ false }
-    ensures before { glyphs_before start buffer.new.input ≡ glyphs_before start buffer.old.input }
-    ensures keeps { KeepsNumbers buffer.old buffer.new }
-{
-    let to = new_place(buffer.info(), start, place);
-    if to < place {
-        let end = place.saturating_add(1);
-        buffer.merge_clusters(to, end);
-        move_last(buffer, to, end, 1);
-    }
-}
-
-/// The place of an item behind those before it whose positions come no later.
-fn new_place(infos: &[hb_glyph_info_t], start: usize, place: usize) -> usize
-    ensures { result < place → (start ≤ result) × (place < length infos.now) }
-{
-    let (Some(info), Some(before)) = (infos.get(place), infos.get(start..place)) else {
-        return place;
-    };
-    for turn in 0..before.len() {
-        let at = before.len() - turn;
-        if position(&before[at - 1]) <= position(info) {
-            return start.saturating_add(at);
-        }
-    }
-    start
 }

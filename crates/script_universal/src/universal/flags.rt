@@ -2,7 +2,7 @@
 //! would have in a part of the text, or the other way about.
 
 ghost use Rattle.std.specs.Prelude.{◌≡◌, ◌&&◌, false, nat_le};
-ghost use Rattle.shaping_buffer.specs.KeepsClusters.{KeepsClusters};
+ghost use Rattle.shaping_passes.specs.Left.{StaysClosed};
 ghost use Rattle.script_universal.specs.Masks as forms;
 
 use crate::universal::masks::{in_form, joins};
@@ -30,8 +30,7 @@ struct Joined {
 /// Flags joined syllables as unsafe to break where a lookup hangs on the form of one of them that a break between them changes.
 pub fn flag_forms<L: FormLookup>(buffer: &mut hb_buffer_t, masks: &FormMasks, lookup: &L)
     requires { buffer.old.have_output ≡ false }
-    ensures closed { buffer.new.have_output ≡ false }
-    ensures keeps { KeepsClusters buffer.old buffer.new }
+    ensures { StaysClosed buffer.old buffer.new }
 {
     flag_parted(
         buffer,
@@ -51,8 +50,7 @@ fn flag_parted<F: Fn(&hb_glyph_info_t, u32) -> bool>(
     requires callable { F.IsAlwaysCallable is_parted.now }
     ensures is { (test : forms.Test) → ((g : _) (m : _) (r : _) → F.post is_parted.now g m r → r ≡ test g.now m)
         → buffer.new ≡ forms.flagged test masks.now buffer.old }
-    ensures closed { buffer.new.have_output ≡ false }
-    ensures keeps { KeepsClusters buffer.old buffer.new }
+    ensures stays { StaysClosed buffer.old buffer.new }
 {
     let mut last = None;
     let mut start = 0;
@@ -100,8 +98,7 @@ fn flag_joined<F: Fn(&hb_glyph_info_t, u32) -> bool>(
     requires callable { F.IsAlwaysCallable is_parted.now }
     ensures is { (test : forms.Test) → ((g : _) (m : _) (r : _) → F.post is_parted.now g m r → r ≡ test g.now m)
         → buffer.new ≡ forms.flag_joined test masks.now last own buffer.old }
-    ensures closed { buffer.new.have_output ≡ false }
-    ensures keeps { KeepsClusters buffer.old buffer.new }
+    ensures stays { StaysClosed buffer.old buffer.new }
 {
     match last {
         Some(last) => match own {
@@ -125,8 +122,7 @@ fn flag_pair<F: Fn(&hb_glyph_info_t, u32) -> bool>(
     requires callable { F.IsAlwaysCallable is_parted.now }
     ensures is { (test : forms.Test) → ((g : _) (m : _) (r : _) → F.post is_parted.now g m r → r ≡ test g.now m)
         → buffer.new ≡ forms.flag_pair test masks.now last.now own.now buffer.old }
-    ensures closed { buffer.new.have_output ≡ false }
-    ensures keeps { KeepsClusters buffer.old buffer.new }
+    ensures stays { StaysClosed buffer.old buffer.new }
 {
     if !lie_within(last, own, buffer.len()) {
         return;

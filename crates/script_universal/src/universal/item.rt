@@ -2,8 +2,8 @@
 
 ghost use Rattle.std.specs.Prelude.{◌≡◌, false, if◌then◌else◌};
 ghost use Rattle.glyph_lists.specs.Clusters.{clusters};
-ghost use Rattle.shaping_buffer.specs.KeepsClusters.{KeepsClusters};
 ghost use Rattle.script_items.specs.Item.{with_shaper_byte};
+ghost use Rattle.shaping_passes.specs.Left.{StaysClosed};
 
 use script_items::item::is_unicode_mark;
 use script_syllables::item::{category_byte, is_ligated, set_category_byte};
@@ -51,8 +51,7 @@ pub(crate) fn is_behind_base(info: &hb_glyph_info_t) -> bool {
 /// Lets each item keep whether syllables pass over it: joiners and what is like them, and a non-joiner before a mark.
 pub(crate) fn mark_passed_over(buffer: &mut hb_buffer_t)
     requires { buffer.old.have_output ≡ false }
-    ensures closed { buffer.new.have_output ≡ false }
-    ensures keeps { KeepsClusters buffer.old buffer.new }
+    ensures { StaysClosed buffer.old buffer.new }
 {
     mark_items(buffer.info_slice_mut());
 }

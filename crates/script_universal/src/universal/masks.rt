@@ -3,13 +3,13 @@
 ghost use Rattle.std.specs.Prelude.{◌≡◌, ◌≤◌, false, length, map};
 ghost use Rattle.glyph_lists.specs.Parts.{map_range};
 ghost use Rattle.glyph_lists.specs.Clusters.{clusters};
-ghost use Rattle.shaping_buffer.specs.KeepsClusters.{KeepsClusters};
+ghost use Rattle.shaping_passes.specs.Left.{StaysClosed};
 ghost use Rattle.script_universal.specs.Masks as forms;
 
 use crate::universal::item::is;
 use crate::universal::plan::{BROKEN, FormMasks};
 use script_syllables::item::add_mask;
-use script_syllables::syllables::{kind_at, syllable_end};
+use script_syllables::syllables::{SyllableWork, kind_at, syllable_end, work_on_all};
 use shaping_buffer::{hb_buffer_t, hb_glyph_info_t};
 use universal_categories::UniversalCategory;
 
@@ -22,36 +22,29 @@ const SYMBOL: u8 = 5;
 /// Sets the mask of rephs on the first items of each syllable.
 pub(crate) fn mask_rephs(buffer: &mut hb_buffer_t, mask: u32)
     requires { buffer.old.have_output ≡ false }
-    ensures closed { buffer.new.have_output ≡ false }
-    ensures keeps { KeepsClusters buffer.old buffer.new }
+    ensures { StaysClosed buffer.old buffer.new }
 {
-    mask_all_rephs(buffer.info_slice_mut(), mask);
+    work_on_all(buffer.info_slice_mut(), &RephMask(mask));
 }
 
-/// Does that in a list.
-fn mask_all_rephs(infos: &mut [hb_glyph_info_t], mask: u32)
-    ensures { clusters infos.new ≡ clusters infos.old }
-{
-    let mut start = 0;
-    for _turn in 0..infos.len() {
-        if start >= infos.len() {
-            break;
-        }
-        let end = syllable_end(infos, start);
-        mask_reph(infos, start, end, mask);
-        start = end;
+/// The mask of rephs.
+struct RephMask(u32);
+
+impl SyllableWork for RephMask {
+    fn work_on(&self, syllable: &mut [hb_glyph_info_t]) {
+        mask_reph(syllable, self.0);
     }
 }
 
 /// Sets the mask of rephs on the first items of a syllable: on one that is a reph already, or on three.
-fn mask_reph(infos: &mut [hb_glyph_info_t], start: usize, end: usize, mask: u32)
-    ensures { clusters infos.new ≡ clusters infos.old }
+fn mask_reph(syllable: &mut [hb_glyph_info_t], mask: u32)
+    ensures { clusters syllable.new ≡ clusters syllable.old }
 {
-    let count = match infos.get(start) {
+    let count = match syllable.first() {
         Some(first) if is(first, UniversalCategory::Repha) => 1,
         _ => REPH_LENGTH,
     };
-    add_mask(infos, start, end.min(start.saturating_add(count)), mask);
+    add_mask(syllable, 0, count, mask);
 }
 
 /// How a syllable stands in its word, as far as it was read.
@@ -68,8 +61,7 @@ enum JoiningForm {
 /// Gives the items of each syllable the form of its place in a word: neighbours join, whatever they are.
 pub(crate) fn mask_forms(buffer: &mut hb_buffer_t, masks: &FormMasks)
     requires { buffer.old.have_output ≡ false }
-    ensures closed { buffer.new.have_output ≡ false }
-    ensures keeps { KeepsClusters buffer.old buffer.new }
+    ensures { StaysClosed buffer.old buffer.new }
 {
     set_forms(buffer.info_slice_mut(), masks);
 }

@@ -1,7 +1,7 @@
 //! The order of the glyphs of syllables, after the basic features.
 
 ghost use Rattle.std.specs.Prelude.{◌≡◌, false};
-ghost use Rattle.script_syllables.specs.KeepsNumbers.{KeepsNumbers};
+ghost use Rattle.script_syllables.specs.Left.{NumbersStay};
 
 use crate::universal::item::{is, is_behind_base, is_halant};
 use crate::universal::plan::{BROKEN, UniversalPlan};
@@ -37,8 +37,7 @@ fn is_reordered(kind: u8) -> bool {
 #[tactic(auto, using(script_syllables::proofs::NumbersLemmas::numbered))]
 fn move_repha(buffer: &mut hb_buffer_t, range: &Range<usize>)
     requires { buffer.old.have_output ≡ false }
-    ensures closed { buffer.new.have_output ≡ false }
-    ensures keeps { KeepsNumbers buffer.old buffer.new }
+    ensures { NumbersStay buffer.old buffer.new }
 {
     if let Some(place) = repha_place(syllable(buffer.info(), range)) {
         let end = range.start.saturating_add(place).saturating_add(1);
@@ -64,8 +63,7 @@ fn repha_place(syllable: &[hb_glyph_info_t]) -> Option<usize> {
 #[tactic(auto, using(script_syllables::proofs::NumbersLemmas::numbered))]
 fn move_fronts(buffer: &mut hb_buffer_t, range: &Range<usize>)
     requires { buffer.old.have_output ≡ false }
-    ensures closed { buffer.new.have_output ≡ false }
-    ensures keeps { KeepsNumbers buffer.old buffer.new }
+    ensures { NumbersStay buffer.old buffer.new }
 {
     let mut to = range.start;
     for place in range.start..range.end {

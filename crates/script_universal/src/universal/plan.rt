@@ -1,9 +1,8 @@
 //! How a text of the universal shaper is shaped by a font.
 
 ghost use Rattle.std.specs.Prelude.{◌≡◌, true, false, IfOk};
-ghost use Rattle.shaping_buffer.specs.KeepsClusters.{KeepsClusters};
-ghost use Rattle.script_syllables.specs.KeepsNumbers.{KeepsNumbers};
-ghost use Rattle.shaping_passes.specs.Refusals.{IsRefusal};
+ghost use Rattle.shaping_passes.specs.Left.{StaysClosed};
+ghost use Rattle.script_syllables.specs.Left.{Reorders};
 ghost use Rattle.script_universal.specs.Masks.{all_forms};
 
 use crate::universal::item::mark_passed_over;
@@ -73,14 +72,12 @@ impl UniversalPlan {
     #[tactic(auto, using(script_syllables::proofs::NumbersLemmas::numbered))]
     pub fn pause<F: FontForms>(
         &self,
+        pause: Pause,
         buffer: &mut hb_buffer_t,
         font: &F,
-        pause: Pause,
     ) -> Result<bool, AllocError>
         requires { buffer.old.have_output ≡ false }
-        ensures closed { IfOk result (λ done. done ≡ true → buffer.new.have_output ≡ false) }
-        ensures refusal { IsRefusal false result buffer.new }
-        ensures keeps { KeepsNumbers buffer.old buffer.new }
+        ensures { Reorders result buffer.old buffer.new }
     {
         match pause {
             Pause::SetUpSyllables => self.setup_syllables(buffer),
@@ -106,8 +103,7 @@ impl UniversalPlan {
     #[tactic(auto, using(shaping_buffer::proofs::ClosedKeepsLemmas::kept))]
     fn setup_syllables(&self, buffer: &mut hb_buffer_t)
         requires { buffer.old.have_output ≡ false }
-        ensures closed { buffer.new.have_output ≡ false }
-        ensures keeps { KeepsClusters buffer.old buffer.new }
+        ensures { StaysClosed buffer.old buffer.new }
     {
         let grammar = Grammar {
             machine: universal_machine(),

@@ -2,22 +2,21 @@
 
 ghost use Rattle.std.specs.Prelude.{◌≡◌, false, map};
 ghost use Rattle.glyph_lists.specs.Clusters.{clusters};
-ghost use Rattle.shaping_buffer.specs.KeepsClusters.{KeepsClusters};
 ghost use Rattle.script_syllables.specs.Item.{without_substitution};
+ghost use Rattle.shaping_passes.specs.Left.{StaysClosed};
 ghost use Rattle.script_universal.specs.Masks.{may_have_made};
 
 use crate::universal::item::set;
 use rb_glyph::{Flags, GlyphPropsFlags};
 use script_syllables::item::is_substituted;
-use script_syllables::syllables::syllable_end;
+use script_syllables::syllables::{SyllableWork, work_on_all};
 use shaping_buffer::{hb_buffer_t, hb_glyph_info_t};
 use universal_categories::UniversalCategory;
 
 /// Forgets which glyphs lookups put there.
 pub(crate) fn forget_substitutions(buffer: &mut hb_buffer_t)
     requires { buffer.old.have_output ≡ false }
-    ensures closed { buffer.new.have_output ≡ false }
-    ensures keeps { KeepsClusters buffer.old buffer.new }
+    ensures { StaysClosed buffer.old buffer.new }
 {
     forget_all(buffer.info_slice_mut());
 }
@@ -53,33 +52,23 @@ pub(crate) struct Recorded {
 /// Takes the first glyph of each syllable that a lookup put there for one that the feature made.
 pub(crate) fn record_made(buffer: &mut hb_buffer_t, recorded: Recorded)
     requires { buffer.old.have_output ≡ false }
-    ensures closed { buffer.new.have_output ≡ false }
-    ensures keeps { KeepsClusters buffer.old buffer.new }
+    ensures { StaysClosed buffer.old buffer.new }
 {
-    record_all(buffer.info_slice_mut(), recorded);
+    work_on_all(buffer.info_slice_mut(), &recorded);
 }
 
-/// Does that in a list.
-fn record_all(infos: &mut [hb_glyph_info_t], recorded: Recorded)
-    ensures { clusters infos.new ≡ clusters infos.old }
-{
-    let mut start = 0;
-    for _turn in 0..infos.len() {
-        if start >= infos.len() {
-            break;
-        }
-        let end = syllable_end(infos, start);
-        record_first(infos, start, end, recorded);
-        start = end;
+impl SyllableWork for Recorded {
+    fn work_on(&self, syllable: &mut [hb_glyph_info_t]) {
+        record_first(syllable, *self);
     }
 }
 
 /// Does that in a syllable.
 #[tactic(auto, using(shaping_buffer::proofs::ClosedKeepsLemmas::clusters_written))]
-fn record_first(infos: &mut [hb_glyph_info_t], start: usize, end: usize, recorded: Recorded)
+fn record_first(infos: &mut [hb_glyph_info_t], recorded: Recorded)
     ensures { clusters infos.new ≡ clusters infos.old }
 {
-    for place in start..end.min(infos.len()) {
+    for place in 0..infos.len() {
         if !may_have_made(&infos[place], recorded.mask) {
             return;
         }

@@ -1,7 +1,9 @@
 use Rattle.shaping_buffer.proofs.ClosedKeepsLemmas.{keeps_with_input}
 use Rattle.script_indic.proofs.reordering.mask_items.Goals as goal
 
-pub returns-clause-keeps : goal.returns-clause-keeps
-returns-clause-keeps g c =
-    keeps_with_input c.args.buffer.now c.mask_in.new.infos c.info_slice_mut.result.now c.info_slice_mut.ensures.value
-    c.mask_in.ensures
+pub returns : goal.returns
+returns g c = record {
+  closed = c.requires;
+  keeps = keeps_with_input c.args.buffer.now c.mask_in.new.infos c.info_slice_mut.result.now c.info_slice_mut.ensures.value
+      c.mask_in.ensures;
+}

@@ -11,8 +11,8 @@ loop-turn-preserved g c =
     let in_turns : c.loop-turn._turn < length c.args.buffer.now.input = omega (arith, whole) in
     let in_text : c.loop-turn.start < length b.input = omega (arith, here) in
     record {
-      closed = c.flag_joined.ensures.closed;
-      keeps = keeps_then c.args.buffer.now b c.flag_joined.new.buffer c.loop-turn.invariant.keeps c.flag_joined.ensures.keeps;
+      closed = c.flag_joined.ensures.stays.closed;
+      keeps = keeps_then c.args.buffer.now b c.flag_joined.new.buffer c.loop-turn.invariant.keeps c.flag_joined.ensures.stays.keeps;
       is = λ test by.
           flagged_from-on test c.args.masks.now _ c.loop-turn._turn c.loop-turn.start c.loop-turn.last b _ in_turns
           (c.loop-turn.invariant.is test by) c.next_syllable-end.result c.joined_at-joined.result c.info.result.now

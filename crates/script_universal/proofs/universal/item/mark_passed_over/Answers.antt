@@ -1,7 +1,9 @@
 use Rattle.shaping_buffer.proofs.ClosedKeepsLemmas.{keeps_with_input}
 use Rattle.script_universal.proofs.universal.item.mark_passed_over.Goals as goal
 
-pub returns-clause-keeps : goal.returns-clause-keeps
-returns-clause-keeps c =
-    keeps_with_input c.args.buffer.now c.mark_items.new.infos c.info_slice_mut.result.now c.info_slice_mut.ensures.value
-    c.mark_items.ensures
+pub returns : goal.returns
+returns c = record {
+  closed = c.requires;
+  keeps = keeps_with_input c.args.buffer.now c.mark_items.new.infos c.info_slice_mut.result.now c.info_slice_mut.ensures.value
+      c.mark_items.ensures;
+}

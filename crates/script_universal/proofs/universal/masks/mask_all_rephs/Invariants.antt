@@ -1,6 +1,0 @@
-use Rattle.std.proofs.Common.{◌≡◌}
-use Rattle.glyph_lists.specs.Clusters.{clusters}
-use Rattle.script_universal.proofs.universal.masks.mask_all_rephs.Given as goal
-
-abbrev pub invariant-loop-turn : goal.invariant-loop-turn
-invariant-loop-turn l = clusters l.infos ≡ clusters l.fn.infos
