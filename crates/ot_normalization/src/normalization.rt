@@ -3,8 +3,7 @@
 //! composed character.
 
 ghost use Rattle.std.specs.Prelude.{◌≡◌, ◌<◌, true, false, length, IfOk};
-ghost use Rattle.shaping_buffer.specs.KeepsClusters.{KeepsClusters};
-ghost use Rattle.shaping_passes.specs.Refusals.{IsRefusal};
+ghost use Rattle.shaping_passes.specs.Left.{Closes, HasCurrent, StaysClosed, StaysOpen};
 
 mod composed_again;
 mod decomposition;
@@ -17,6 +16,7 @@ mod variations;
 use composed_again::keep_composed_again;
 use decomposition::decompose_all;
 use font_functions::FontFunctions;
+use pairs::Composing;
 use recomposition::recompose_all;
 use reordering::{reorder_marks, unhide_joiners};
 use script_items::allows_any_order;
@@ -37,9 +37,7 @@ pub fn normalize<F: FontFunctions>(
     script: &ScriptPlan,
 ) -> Result<bool, AllocError>
     requires { buffer.old.have_output ≡ false }
-    ensures closed { IfOk result (λ done. done ≡ true → buffer.new.have_output ≡ false) }
-    ensures refusal { IsRefusal false result buffer.new }
-    ensures keeps { KeepsClusters buffer.old buffer.new }
+    ensures { Closes result buffer.old buffer.new }
 {
     let has_marks = has_marks(buffer.info());
     keep_composed_again(buffer, font, script, has_marks);
@@ -56,14 +54,13 @@ pub fn normalize<F: FontFunctions>(
     if !composes {
         return Ok(true);
     }
-    recompose_all(buffer, font, script)
+    recompose_all(buffer, &Composing::new(font, script))
 }
 
 /// Shows the grapheme joiners that marks may have passed, where the text has any.
 fn unhide_if_any(buffer: &mut hb_buffer_t)
     requires { buffer.old.have_output ≡ false }
-    ensures closed { buffer.new.have_output ≡ false }
-    ensures keeps { KeepsClusters buffer.old buffer.new }
+    ensures { StaysClosed buffer.old buffer.new }
 {
     if buffer.scratch_flags & HB_BUFFER_SCRATCH_FLAG_HAS_CGJ != 0 {
         unhide_joiners(buffer);
@@ -80,10 +77,8 @@ fn has_marks(infos: &[hb_glyph_info_t]) -> bool {
 
 /// Drops the current character, of which another one in its cluster stands before it.
 fn drop_behind(buffer: &mut hb_buffer_t)
-    requires opened { buffer.old.have_output ≡ true }
-    requires glyph { 0 < length buffer.old.input }
-    ensures opened { buffer.new.have_output ≡ true }
-    ensures keeps { KeepsClusters buffer.old buffer.new }
+    requires { HasCurrent buffer.old }
+    ensures { StaysOpen buffer.old buffer.new }
 {
     if buffer.out_len() > 0 && buffer.prev().cluster == buffer.cur(0).cluster {
         buffer.skip_glyph();

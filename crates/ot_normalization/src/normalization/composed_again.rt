@@ -1,7 +1,7 @@
 //! Characters that are taken apart, and composed again only as the text has marks.
 
 ghost use Rattle.std.specs.Prelude.{◌≡◌, ◌<◌, false, length};
-ghost use Rattle.shaping_buffer.specs.KeepsClusters.{KeepsClusters};
+ghost use Rattle.shaping_passes.specs.Left.{StaysClosed};
 ghost use Rattle.ot_normalization.specs.FontRules as rules;
 
 use super::pairs::{Composing, composite_of};
@@ -21,8 +21,7 @@ pub(crate) fn keep_composed_again<F: FontFunctions>(
     has_marks: bool,
 )
     requires { buffer.old.have_output ≡ false }
-    ensures closed { buffer.new.have_output ≡ false }
-    ensures keeps { KeepsClusters buffer.old buffer.new }
+    ensures { StaysClosed buffer.old buffer.new }
 {
     if has_marks && script.shaper.normalization_mode() == NormalizationMode::Decomposed {
         let composing = Composing::new(font, script);

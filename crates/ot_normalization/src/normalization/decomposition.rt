@@ -4,6 +4,7 @@ ghost use Rattle.std.specs.Prelude.{◌≡◌, ◌+◌, ◌<◌, ◌≤◌, true
 ghost use Rattle.shaping_buffer.specs.Clusters.{clusters};
 ghost use Rattle.shaping_buffer.specs.KeepsClusters.{KeepsClusters};
 ghost use Rattle.shaping_passes.specs.Refusals.{IsRefusal};
+ghost use Rattle.shaping_passes.specs.Left.{HasCurrent, StaysClosed, StaysOpen, StaysOpenAndTells};
 
 use super::drop_behind;
 use super::parts::{Decomposer, parts_of};
@@ -61,8 +62,7 @@ pub(crate) fn decompose_all<F: FontFunctions>(
 /// Finds the glyph of each character, 0 where the font has none.
 fn map_characters<F: FontFunctions>(buffer: &mut hb_buffer_t, font: &F)
     requires { buffer.old.have_output ≡ false }
-    ensures closed { buffer.new.have_output ≡ false }
-    ensures keeps { KeepsClusters buffer.old buffer.new }
+    ensures { StaysClosed buffer.old buffer.new }
 {
     map_all(buffer.info_slice_mut(), font);
 }
@@ -156,9 +156,7 @@ fn decompose_next<F: FontFunctions>(
     shaper: ScriptShaper,
 ) -> Result<bool, AllocError>
     requires { buffer.old.have_output ≡ true }
-    ensures opened { IfOk result (λ _. buffer.new.have_output ≡ true) }
-    ensures refusal { IsRefusal false result buffer.new }
-    ensures keeps { KeepsClusters buffer.old buffer.new }
+    ensures { StaysOpenAndTells false result buffer.old buffer.new }
 {
     let mode = shaper.normalization_mode();
     let decomposer = Decomposer {
@@ -227,9 +225,7 @@ fn decompose_characters<F: FontFunctions>(
     count: usize,
 ) -> Result<bool, AllocError>
     requires { buffer.old.have_output ≡ true }
-    ensures opened { IfOk result (λ _. buffer.new.have_output ≡ true) }
-    ensures refusal { IsRefusal false result buffer.new }
-    ensures keeps { KeepsClusters buffer.old buffer.new }
+    ensures { StaysOpenAndTells false result buffer.old buffer.new }
 {
     let mut left = count;
     for _turn in 0..count {
@@ -270,11 +266,8 @@ fn decompose_current<F: FontFunctions>(
     buffer: &mut hb_buffer_t,
     decomposer: &Decomposer<F>,
 ) -> Result<bool, AllocError>
-    requires opened { buffer.old.have_output ≡ true }
-    requires glyph { 0 < length buffer.old.input }
-    ensures opened { IfOk result (λ _. buffer.new.have_output ≡ true) }
-    ensures refusal { IsRefusal false result buffer.new }
-    ensures keeps { KeepsClusters buffer.old buffer.new }
+    requires { HasCurrent buffer.old }
+    ensures { StaysOpenAndTells false result buffer.old buffer.new }
 {
     let mut parts = Parts::new();
     if add_font_parts(&mut parts, decomposer, buffer.cur(0).glyph_id) {
@@ -293,11 +286,8 @@ fn put_parts<F: FontFunctions>(
     font: &F,
     parts: &[u32],
 ) -> Result<bool, AllocError>
-    requires opened { buffer.old.have_output ≡ true }
-    requires glyph { 0 < length buffer.old.input }
-    ensures opened { IfOk result (λ _. buffer.new.have_output ≡ true) }
-    ensures refusal { IsRefusal false result buffer.new }
-    ensures keeps { KeepsClusters buffer.old buffer.new }
+    requires { HasCurrent buffer.old }
+    ensures { StaysOpenAndTells false result buffer.old buffer.new }
 {
     for part in parts.iter() {
         if !put_part(buffer, font, *part)? {
@@ -315,12 +305,9 @@ fn put_part<F: FontFunctions>(
     font: &F,
     part: u32,
 ) -> Result<bool, AllocError>
-    requires opened { buffer.old.have_output ≡ true }
-    requires glyph { 0 < length buffer.old.input }
-    ensures opened { IfOk result (λ _. buffer.new.have_output ≡ true) }
+    requires { HasCurrent buffer.old }
     ensures glyph { IfOk result (λ _. 0 < length buffer.new.input) }
-    ensures refusal { IsRefusal false result buffer.new }
-    ensures keeps { KeepsClusters buffer.old buffer.new }
+    ensures stays { StaysOpenAndTells false result buffer.old buffer.new }
 {
     let glyph = font.nominal_glyph(part);
     set_current_glyph(buffer, glyph.map_or(0, |glyph| u32::from(glyph.0)));
@@ -333,11 +320,9 @@ fn put_part<F: FontFunctions>(
 
 /// Sets the glyph of the current character.
 pub(crate) fn set_current_glyph(buffer: &mut hb_buffer_t, glyph: u32)
-    requires opened { buffer.old.have_output ≡ true }
-    requires glyph { 0 < length buffer.old.input }
-    ensures opened { buffer.new.have_output ≡ true }
+    requires { HasCurrent buffer.old }
     ensures input { length buffer.new.input ≡ length buffer.old.input }
-    ensures keeps { KeepsClusters buffer.old buffer.new }
+    ensures stays { StaysOpen buffer.old buffer.new }
 {
     set_glyph(buffer.cur_mut(0), glyph);
 }
@@ -386,11 +371,9 @@ fn set_last(infos: &mut [hb_glyph_info_t], scratch_flags: &mut u32)
 /// and for the hyphen that no line is broken at another hyphen.
 #[tactic(auto, using(shaping_buffer::proofs::ClosedKeepsLemmas::kept))]
 fn find_fallback<F: FontFunctions>(buffer: &mut hb_buffer_t, font: &F)
-    requires opened { buffer.old.have_output ≡ true }
-    requires glyph { 0 < length buffer.old.input }
-    ensures opened { buffer.new.have_output ≡ true }
+    requires { HasCurrent buffer.old }
     ensures input { length buffer.new.input ≡ length buffer.old.input }
-    ensures keeps { KeepsClusters buffer.old buffer.new }
+    ensures stays { StaysOpen buffer.old buffer.new }
 {
     let character = buffer.cur(0).glyph_id;
     if is_unicode_space(buffer.cur(0)) {
@@ -405,11 +388,9 @@ fn find_fallback<F: FontFunctions>(buffer: &mut hb_buffer_t, font: &F)
 /// Takes the font's space, or the buffer's invisible glyph, for a space that the font lacks.
 #[tactic(auto, using(shaping_buffer::proofs::ClosedKeepsLemmas::kept))]
 fn find_space<F: FontFunctions>(buffer: &mut hb_buffer_t, font: &F, character: u32)
-    requires opened { buffer.old.have_output ≡ true }
-    requires glyph { 0 < length buffer.old.input }
-    ensures opened { buffer.new.have_output ≡ true }
+    requires { HasCurrent buffer.old }
     ensures input { length buffer.new.input ≡ length buffer.old.input }
-    ensures keeps { KeepsClusters buffer.old buffer.new }
+    ensures stays { StaysOpen buffer.old buffer.new }
 {
     let space = match char::from_u32(character) {
         Some(character) => character.space_fallback(),
@@ -430,20 +411,17 @@ fn find_space<F: FontFunctions>(buffer: &mut hb_buffer_t, font: &F, character: u
 /// Says that a space of the text is one that the font lacks.
 fn note_space(buffer: &mut hb_buffer_t)
     requires opened { buffer.old.have_output ≡ true }
-    ensures opened { buffer.new.have_output ≡ true }
     ensures input { length buffer.new.input ≡ length buffer.old.input }
-    ensures keeps { KeepsClusters buffer.old buffer.new }
+    ensures stays { StaysOpen buffer.old buffer.new }
 {
     buffer.scratch_flags = buffer.scratch_flags | HB_BUFFER_SCRATCH_FLAG_HAS_SPACE_FALLBACK;
 }
 
 /// Sets the glyph of the current character, a space of this kind.
 fn set_space(buffer: &mut hb_buffer_t, space: space_t, glyph: GlyphId)
-    requires opened { buffer.old.have_output ≡ true }
-    requires glyph { 0 < length buffer.old.input }
-    ensures opened { buffer.new.have_output ≡ true }
+    requires { HasCurrent buffer.old }
     ensures input { length buffer.new.input ≡ length buffer.old.input }
-    ensures keeps { KeepsClusters buffer.old buffer.new }
+    ensures stays { StaysOpen buffer.old buffer.new }
 {
     take_space(buffer.cur_mut(0), space, glyph);
 }

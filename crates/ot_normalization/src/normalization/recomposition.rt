@@ -4,7 +4,7 @@
 ghost use Rattle.std.specs.Prelude.{◌≡◌, ◌<◌, true, false, length, IfOk};
 ghost use Rattle.shaping_buffer.specs.Clusters.{clusters};
 ghost use Rattle.shaping_buffer.specs.KeepsClusters.{KeepsClusters};
-ghost use Rattle.shaping_passes.specs.NormalizationComposition.{IsReady, IsPlace};
+ghost use Rattle.shaping_passes.specs.NormalizationComposition.{IsAtTurn, IsReady, IsPlace};
 ghost use Rattle.shaping_passes.specs.Refusals.{IsRefusal};
 
 use super::pairs::{Composing, pair_of};
@@ -12,7 +12,6 @@ use super::reordering::KeptClasses;
 use font_functions::FontFunctions;
 use script_items::glyph_info::set_unicode_props;
 use script_items::item::modified_combining_class;
-use script_shapers::ScriptPlan;
 use shaping_buffer::{hb_buffer_t, hb_glyph_info_t};
 use shaping_passes::normalization::next_turn;
 use std::alloc::AllocError;
@@ -22,8 +21,7 @@ use std::alloc::AllocError;
 #[tactic(auto, using(shaping_buffer::proofs::ClosedKeepsLemmas::kept))]
 pub(crate) fn recompose_all<F: FontFunctions>(
     buffer: &mut hb_buffer_t,
-    font: &F,
-    script: &ScriptPlan,
+    composing: &Composing<F>,
 ) -> Result<bool, AllocError>
     requires { buffer.old.have_output ≡ false }
     ensures closed { IfOk result (λ done. done ≡ true → buffer.new.have_output ≡ false) }
@@ -33,8 +31,7 @@ pub(crate) fn recompose_all<F: FontFunctions>(
     if !buffer.successful() {
         return Ok(false);
     }
-    let composing = Composing::new(font, script);
-    if !has_pair(buffer.info(), &composing) {
+    if !has_pair(buffer.info(), composing) {
         return Ok(true);
     }
     // Read for what its contract says: the list is no longer than `max_len`.
@@ -42,7 +39,7 @@ pub(crate) fn recompose_all<F: FontFunctions>(
     buffer.clear_output();
     let mut starter = None;
     while buffer.lookahead_len() > 0 {
-        starter = recompose_next(buffer, &composing, starter);
+        starter = recompose_next(buffer, composing, starter);
     }
     buffer.sync()
 }
@@ -73,9 +70,7 @@ fn recompose_next<F: FontFunctions>(
     composing: &Composing<F>,
     starter: Option<usize>,
 ) -> Option<usize>
-    requires ready { IsReady buffer.old }
-    requires some { 0 < length buffer.old.input }
-    requires place { IsPlace starter buffer.old }
+    requires { IsAtTurn starter buffer.old }
     ensures ready { IsReady buffer.new }
     ensures place { IsPlace result buffer.new }
     ensures shorter { length buffer.new.input < length buffer.old.input }

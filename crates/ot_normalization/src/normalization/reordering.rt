@@ -2,7 +2,7 @@
 
 ghost use Rattle.std.specs.Prelude.{◌≡◌, ◌<◌, ◌≤◌, false, length};
 ghost use Rattle.shaping_buffer.specs.Clusters.{clusters};
-ghost use Rattle.shaping_buffer.specs.KeepsClusters.{KeepsClusters};
+ghost use Rattle.shaping_passes.specs.Left.{StaysClosed};
 
 use script_items::item::modified_combining_class;
 use script_shapers::ScriptShaper;
@@ -33,8 +33,7 @@ impl MarkClasses for KeptClasses {
 #[tactic(auto, using(shaping_buffer::proofs::ClosedKeepsLemmas::kept))]
 pub(crate) fn reorder_marks(buffer: &mut hb_buffer_t, shaper: ScriptShaper)
     requires { buffer.old.have_output ≡ false }
-    ensures closed { buffer.new.have_output ≡ false }
-    ensures keeps { KeepsClusters buffer.old buffer.new }
+    ensures { StaysClosed buffer.old buffer.new }
 {
     let mut at = 0;
     for _turn in 0..buffer.len() {
@@ -55,8 +54,7 @@ fn reorder_run(buffer: &mut hb_buffer_t, shaper: ScriptShaper, start: usize, end
     requires closed { buffer.old.have_output ≡ false }
     requires some { start < end }
     requires within { end ≤ length buffer.old.input }
-    ensures closed { buffer.new.have_output ≡ false }
-    ensures keeps { KeepsClusters buffer.old buffer.new }
+    ensures { StaysClosed buffer.old buffer.new }
 {
     order_run(buffer, &KeptClasses, start, end);
     shaper.reorder_marks(buffer, start, end);
@@ -65,8 +63,7 @@ fn reorder_run(buffer: &mut hb_buffer_t, shaper: ScriptShaper, start: usize, end
 /// Lets lookups pass over each combining grapheme joiner that did not keep marks from being put in order.
 pub(crate) fn unhide_joiners(buffer: &mut hb_buffer_t)
     requires { buffer.old.have_output ≡ false }
-    ensures closed { buffer.new.have_output ≡ false }
-    ensures keeps { KeepsClusters buffer.old buffer.new }
+    ensures { StaysClosed buffer.old buffer.new }
 {
     unhide_all(buffer.info_slice_mut());
 }

@@ -1,8 +1,7 @@
 //! A base and its marks, with a variation selector among them.
 
 ghost use Rattle.std.specs.Prelude.{◌≡◌, ◌+◌, ◌<◌, ◌≤◌, true, false, length, IfOk};
-ghost use Rattle.shaping_buffer.specs.KeepsClusters.{KeepsClusters};
-ghost use Rattle.shaping_passes.specs.Refusals.{IsRefusal};
+ghost use Rattle.shaping_passes.specs.Left.{HasCurrent, StaysOpen, StaysOpenAndTells};
 
 use super::decomposition::{is_variation_selector, set_current_glyph};
 use font_functions::FontFunctions;
@@ -21,9 +20,7 @@ pub(crate) fn read_variations<F: FontFunctions>(
     count: usize,
 ) -> Result<bool, AllocError>
     requires { buffer.old.have_output ≡ true }
-    ensures opened { IfOk result (λ _. buffer.new.have_output ≡ true) }
-    ensures refusal { IsRefusal false result buffer.new }
-    ensures keeps { KeepsClusters buffer.old buffer.new }
+    ensures { StaysOpenAndTells false result buffer.old buffer.new }
 {
     let end = buffer.idx().saturating_add(count);
     for _turn in 0..count {
@@ -44,11 +41,8 @@ fn read_next<F: FontFunctions>(
     font: &F,
     end: usize,
 ) -> Result<bool, AllocError>
-    requires opened { buffer.old.have_output ≡ true }
-    requires glyph { 0 < length buffer.old.input }
-    ensures opened { IfOk result (λ _. buffer.new.have_output ≡ true) }
-    ensures refusal { IsRefusal false result buffer.new }
-    ensures keeps { KeepsClusters buffer.old buffer.new }
+    requires { HasCurrent buffer.old }
+    ensures { StaysOpenAndTells false result buffer.old buffer.new }
 {
     if buffer.idx().saturating_add(1) >= end
         || buffer.lookahead_len() == 1
@@ -67,9 +61,7 @@ fn read_next<F: FontFunctions>(
 fn read_variation<F: FontFunctions>(buffer: &mut hb_buffer_t, font: &F) -> Result<bool, AllocError>
     requires opened { buffer.old.have_output ≡ true }
     requires glyphs { 1 < length buffer.old.input }
-    ensures opened { IfOk result (λ _. buffer.new.have_output ≡ true) }
-    ensures refusal { IsRefusal false result buffer.new }
-    ensures keeps { KeepsClusters buffer.old buffer.new }
+    ensures { StaysOpenAndTells false result buffer.old buffer.new }
 {
     let character = buffer.cur(0).glyph_id;
     let selector = buffer.cur(1).glyph_id;
@@ -87,9 +79,7 @@ fn read_variation<F: FontFunctions>(buffer: &mut hb_buffer_t, font: &F) -> Resul
 fn keep_both(buffer: &mut hb_buffer_t) -> Result<bool, AllocError>
     requires opened { buffer.old.have_output ≡ true }
     requires glyphs { 1 < length buffer.old.input }
-    ensures opened { IfOk result (λ _. buffer.new.have_output ≡ true) }
-    ensures refusal { IsRefusal false result buffer.new }
-    ensures keeps { KeepsClusters buffer.old buffer.new }
+    ensures { StaysOpenAndTells false result buffer.old buffer.new }
 {
     if !buffer.next_glyph()? {
         return Ok(false);
@@ -103,11 +93,9 @@ fn keep_both(buffer: &mut hb_buffer_t) -> Result<bool, AllocError>
 
 /// Says that the current character is a variation selector that the font does not know, and whether it is shown.
 fn note_selector(buffer: &mut hb_buffer_t, is_shown: bool)
-    requires opened { buffer.old.have_output ≡ true }
-    requires glyph { 0 < length buffer.old.input }
-    ensures opened { buffer.new.have_output ≡ true }
+    requires { HasCurrent buffer.old }
     ensures input { length buffer.new.input ≡ length buffer.old.input }
-    ensures keeps { KeepsClusters buffer.old buffer.new }
+    ensures stays { StaysOpen buffer.old buffer.new }
 {
     note(buffer.cur_mut(0), is_shown);
 }
@@ -126,9 +114,7 @@ fn note(info: &mut hb_glyph_info_t, is_shown: bool)
 #[tactic(auto, using(shaping_buffer::proofs::ClosedKeepsLemmas::kept))]
 fn keep_selectors(buffer: &mut hb_buffer_t, end: usize) -> Result<bool, AllocError>
     requires { buffer.old.have_output ≡ true }
-    ensures opened { IfOk result (λ _. buffer.new.have_output ≡ true) }
-    ensures refusal { IsRefusal false result buffer.new }
-    ensures keeps { KeepsClusters buffer.old buffer.new }
+    ensures { StaysOpenAndTells false result buffer.old buffer.new }
 {
     for _turn in buffer.idx()..end {
         if buffer.idx() >= end
