@@ -106,6 +106,24 @@ struct GroupRun {
     last: u32,
 }
 
+impl GroupRun {
+    /// Puts the numbers of the glyphs of codes from one to before another in their places.
+    #[inline]
+    fn put(&self, glyphs: &mut [u16; FIRST_COUNT], start: usize, end: usize, format: u16)
+        requires { end ≤ 128 }
+        ensures before { (code : ℕ) → code < start → slice_index glyphs.new code ≡ slice_index glyphs.old code }
+        ensures put { (code : ℕ) → start ≤ code → code < end
+            → some_glyph (slice_index glyphs.new code) ≡ glyph_of_group format code self.now.group }
+    {
+        for code in start..end {
+            glyphs[code] = match &self.group {
+                Some(group) => number_in_group(format, code as u32, group.start, group.glyph),
+                None => 0,
+            };
+        }
+    }
+}
+
 /// The group of a code and of those behind it.
 #[inline]
 #[tactic(auto, unfolding(crate::specs::Subtables::groups_glyph))]
@@ -142,30 +160,8 @@ pub(crate) fn first_groups_glyphs(table: &[u8], format: u16) -> [u16; FIRST_COUN
     while code < FIRST_COUNT {
         let run = group_run(table, code as u32);
         let end = FIRST_COUNT.min((run.last as usize).saturating_add(1));
-        put_glyphs(&mut glyphs, code, end, format, &run);
+        run.put(&mut glyphs, code, end, format);
         code = end;
     }
     glyphs
-}
-
-/// Puts the numbers of the glyphs of codes that have one group, from one code to before another, in their places.
-#[inline]
-fn put_glyphs(
-    glyphs: &mut [u16; FIRST_COUNT],
-    start: usize,
-    end: usize,
-    format: u16,
-    run: &GroupRun,
-)
-    requires { end ≤ 128 }
-    ensures before { (code : ℕ) → code < start → slice_index glyphs.new code ≡ slice_index glyphs.old code }
-    ensures put { (code : ℕ) → start ≤ code → code < end
-        → some_glyph (slice_index glyphs.new code) ≡ glyph_of_group format code run.now.group }
-{
-    for code in start..end {
-        glyphs[code] = match &run.group {
-            Some(group) => number_in_group(format, code as u32, group.start, group.glyph),
-            None => 0,
-        };
-    }
 }

@@ -89,6 +89,30 @@ struct SegmentRun {
     last: u32,
 }
 
+impl SegmentRun {
+    /// Puts the numbers of the glyphs of codes from one to before another in their places.
+    #[inline]
+    fn put(
+        &self,
+        glyphs: &mut [u16; FIRST_COUNT],
+        start: usize,
+        end: usize,
+        segments: &Segments<'_>,
+    )
+        requires { end ≤ 128 }
+        ensures before { (code : ℕ) → code < start → slice_index glyphs.new code ≡ slice_index glyphs.old code }
+        ensures put { (code : ℕ) → start ≤ code → code < end
+            → some_glyph (slice_index glyphs.new code) ≡ glyph_of_segment segments.now.table.now code self.now.segment }
+    {
+        for code in start..end {
+            glyphs[code] = match &self.segment {
+                Some(segment) => number_in_segment(segments, code as u32, segment),
+                None => 0,
+            };
+        }
+    }
+}
+
 /// The segment of a code and of those behind it.
 #[inline]
 #[tactic(auto, unfolding(crate::specs::Subtables::segments_glyph))]
@@ -125,30 +149,8 @@ pub(crate) fn first_segments_glyphs(segments: &Segments<'_>) -> [u16; FIRST_COUN
     while code < FIRST_COUNT {
         let run = segment_run(segments, code as u32);
         let end = FIRST_COUNT.min((run.last as usize).saturating_add(1));
-        put_glyphs(&mut glyphs, code, end, segments, &run);
+        run.put(&mut glyphs, code, end, segments);
         code = end;
     }
     glyphs
-}
-
-/// Puts the numbers of the glyphs of codes that have one segment, from one code to before another, in their places.
-#[inline]
-fn put_glyphs(
-    glyphs: &mut [u16; FIRST_COUNT],
-    start: usize,
-    end: usize,
-    segments: &Segments<'_>,
-    run: &SegmentRun,
-)
-    requires { end ≤ 128 }
-    ensures before { (code : ℕ) → code < start → slice_index glyphs.new code ≡ slice_index glyphs.old code }
-    ensures put { (code : ℕ) → start ≤ code → code < end
-        → some_glyph (slice_index glyphs.new code) ≡ glyph_of_segment segments.now.table.now code run.now.segment }
-{
-    for code in start..end {
-        glyphs[code] = match &run.segment {
-            Some(segment) => number_in_segment(segments, code as u32, segment),
-            None => 0,
-        };
-    }
 }
