@@ -9,7 +9,7 @@ use Rattle.font_tables.specs.Rows.{first_row, rows_within, is_within}
 use Rattle.font_variations.specs.IndexMap.{index_of}
 use Rattle.font_variations.specs.Rounding.{rounded}
 use Rattle.font_variations.specs.VariationStore.{delta}
-use Rattle.font_gvar.specs.Glyf.{empty_box}
+use Rattle.outline_tables.specs.Glyf.{empty_box}
 use Rattle.rb_glyph.specs.declared.names.GlyphExtents.{GlyphExtents}
 
 -- the table that an offset of 32 bits of a version from 1 on leads to

@@ -11,7 +11,7 @@ use Rattle.font_tables.specs.Bytes.{byte_at, number_16, number_24, number_32, si
 use Rattle.font_tables.specs.declared.scale.Scale.{Scale}
 use Rattle.font_variations.specs.IndexMap.{index_of}
 use Rattle.font_variations.specs.VariationStore.{delta}
-use Rattle.font_gvar.specs.Glyf.{empty_box}
+use Rattle.outline_tables.specs.Glyf.{empty_box}
 use Rattle.font_gvar.specs.declared.outline_bounds.PointBounds.{PointBounds}
 use Rattle.font_outlines.specs.declared.path.Bounds.{Bounds as PathBounds}
 use Rattle.rb_glyph.specs.declared.names.GlyphExtents.{GlyphExtents}

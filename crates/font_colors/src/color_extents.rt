@@ -9,7 +9,7 @@ use crate::extents::Extents;
 use crate::outlines::DrawnOutlines;
 use crate::painter::{Canvas, DEEPEST_PAINT, Painter, Visits};
 use crate::transform::Transform;
-use font_gvar::glyf::NO_BOX;
+use outline_tables::glyf::NO_BOX;
 use rb_common::GlyphId;
 use rb_glyph::GlyphExtents;
 use std::alloc::{AllocError, Global};

@@ -4,12 +4,12 @@ ghost use Rattle.std.specs.Prelude.{◌≡◌, ◌<◌, ◌≤◌, IsTrue};
 ghost use Rattle.font_tables.specs.Rows.{Rises};
 ghost use Rattle.font_colors.specs.Colr.{box_between, box_of, box_of_sides, clip_bytes, clip_count, clip_list, clip_of, delta_set, distance, last_glyph, moved, part_at, side, varies};
 
-use font_gvar::glyf::NO_BOX;
 use font_tables::bytes::{i16_at, table_at_32, tail, u8_at, u16_at, u24_at, u32_at};
 use font_tables::rows::{Keys16, first_row, rises, rows_within};
 use font_variations::VariationStore;
 use font_variations::index_map::{DeltaSetIndex, IndexMap};
 use font_variations::rounding::{float, rounded};
+use outline_tables::glyf::NO_BOX;
 use rb_common::GlyphId;
 use rb_glyph::GlyphExtents;
 use std::num::saturating_f32_to_i32;

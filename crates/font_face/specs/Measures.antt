@@ -20,7 +20,7 @@ use Rattle.font_colors.specs.Cbdt.{cbdt_box}
 use Rattle.font_colors.specs.Colr.{clip_box}
 use Rattle.font_colors.specs.Pixels.{in_units}
 use Rattle.font_colors.specs.Sbix.{sbix_box}
-use Rattle.font_gvar.specs.Glyf.{glyf_extents}
+use Rattle.outline_tables.specs.Glyf.{glyf_extents}
 use Rattle.font_face.specs.declared.color.ColorTables.{ColorTables}
 use Rattle.font_face.specs.declared.face.Face.{Face}
 

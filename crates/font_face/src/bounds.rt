@@ -2,7 +2,7 @@
 
 ghost use Rattle.std.specs.Prelude.{◌≡◌, [], Ok, Some, IfSome};
 ghost use Rattle.font_tables.specs.Metrics.{side_bearing};
-ghost use Rattle.font_gvar.specs.Glyf.{glyf_extents};
+ghost use Rattle.outline_tables.specs.Glyf.{glyf_extents};
 ghost use Rattle.font_face.specs.Measures.{color_bounds};
 
 use crate::color::ColorTables;

@@ -14,7 +14,6 @@ use crate::layout::Layout;
 use crate::variations::FaceVariations;
 use aat_tables::Metamorphosis;
 use font_cmap::CharacterMap;
-use font_gvar::GlyfTables;
 use font_outlines::Outlines;
 use font_tables::bytes::u16_at;
 use font_tables::directory::Tables;
@@ -27,6 +26,7 @@ use font_tables::scale::Scale;
 use font_tables::vertical_origins::VerticalOrigins;
 use ot_lookups::LookupList;
 use ot_lookups::lookup_list::{POSITIONING_EXTENSION, SUBSTITUTION_EXTENSION};
+use outline_tables::GlyfTables;
 use rb_common::{GlyphId, Tag};
 use std::alloc::{AllocError, Global};
 

@@ -1,5 +1,4 @@
 pub mod Components
-pub mod Glyf
 pub mod Glyphs
 pub mod Phantoms
 pub mod Points

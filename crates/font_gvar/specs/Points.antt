@@ -4,7 +4,7 @@ use Rattle.std.specs.Float.{float_zero}
 use Rattle.std.specs.Float.Ieee.{Float, add, div, eq, fin, le, lt, neg, sub, mul, of_int, binary32}
 use Rattle.font_variations.specs.Rounding.{greater, lesser, rounded}
 use Rattle.rb_glyph.specs.declared.names.GlyphExtents.{GlyphExtents}
-use Rattle.font_gvar.specs.Glyf.{empty_box}
+use Rattle.outline_tables.specs.Glyf.{empty_box}
 use Rattle.font_gvar.specs.declared.outline_bounds.PointBounds.{PointBounds}
 use Rattle.font_gvar.specs.declared.phantoms.Phantoms.{Phantoms}
 use Rattle.font_gvar.specs.declared.points.OutlinePoint.{OutlinePoint}

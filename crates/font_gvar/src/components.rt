@@ -4,10 +4,10 @@ ghost use Rattle.std.specs.Prelude.{◌≡◌, ◌≤◌, not, ◌&&◌, IfSome,
 ghost use Rattle.font_gvar.specs.Components.{argument, arguments_size, component_anchors, component_glyph, component_matrix, component_offset, component_size, fraction, glyph_of, glyph_size, has_flag, matrix_at, matrix_size, next_flags, offset, put, signed_argument, stretching};
 
 use crate::flags::has_flag;
-use crate::glyf::HEADER_SIZE;
 use crate::points::Point;
 use font_tables::bytes::{i16_at, tail, u8_at, u16_at, u24_at};
 use font_variations::rounding::float;
+use outline_tables::glyf::HEADER_SIZE;
 use rb_common::GlyphId;
 
 /// The components of an outline, which are read one after the other.

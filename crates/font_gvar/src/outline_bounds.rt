@@ -3,12 +3,12 @@
 ghost use Rattle.std.specs.Prelude.{◌≡◌, ◌-◌, length, take};
 ghost use Rattle.font_gvar.specs.Points.{all_moved, bounds_of, including, to_origin, whole_box};
 
-use crate::glyf::NO_BOX;
 use crate::outlines::last_phantoms;
 use crate::phantoms::{DEEPEST_GLYPH, MOST_GLYPHS, Phantoms};
 use crate::points::{OutlinePoint, Point};
 use crate::sources::{GlyphSources, PointSource};
 use font_variations::rounding::{float, greater, lesser, rounded};
+use outline_tables::glyf::NO_BOX;
 use rb_common::GlyphId;
 use rb_glyph::GlyphExtents;
 use std::alloc::{AllocError, Global};

@@ -4,11 +4,11 @@ ghost use Rattle.std.specs.Prelude.{◌≡◌, ◌≤◌, length};
 ghost use Rattle.font_gvar.specs.Points.{last_phantoms};
 
 use crate::components::{Component, Components};
-use crate::glyf::{OutlineKind, outline_kind};
 use crate::phantoms::Phantoms;
 use crate::points::{OutlinePoint, Point};
 use crate::simple_outlines::push_points;
 use crate::sources::PointSource;
+use outline_tables::glyf::{OutlineKind, outline_kind};
 use rb_common::GlyphId;
 use std::alloc::AllocError;
 

@@ -7,13 +7,13 @@ ghost use Rattle.font_gvar.specs.Points.{each_moved};
 ghost use Rattle.font_gvar.specs.Glyphs.{data_of};
 
 use crate::components::Components;
-use crate::glyf::{OutlineKind, outline_kind};
 use crate::points::Point;
 use crate::simple_outlines::point_count;
 use crate::sources::GlyphSources;
 use crate::tuple_deltas::TupleDeltas;
 use crate::tuple_scalar::tuple_scalar;
 use crate::tuples::{Tuple, Tuples};
+use outline_tables::glyf::{OutlineKind, outline_kind};
 use rb_common::GlyphId;
 
 /// The phantom points of a glyph.

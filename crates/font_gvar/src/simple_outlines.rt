@@ -4,10 +4,10 @@
 ghost use Rattle.std.specs.Prelude.{◌≡◌, IfSome, option_map};
 ghost use Rattle.font_gvar.specs.Glyphs.{behind_flag, next_flag, point_count, repeats_left, step, step_size};
 
-use crate::glyf::HEADER_SIZE;
 use crate::points::{OutlinePoint, Point};
 use font_tables::bytes::{i16_at, tail, u8_at, u16_at};
 use font_variations::rounding::float;
+use outline_tables::glyf::HEADER_SIZE;
 use std::alloc::AllocError;
 
 /// How many points an outline of so many contours has; `None` where the outline is cut short.

@@ -3,13 +3,13 @@
 ghost use Rattle.std.specs.Prelude.{◌≡◌, ◌<◌, ◌≤ℤ◌, IsSome, pos, negsuc};
 ghost use Rattle.font_gvar.specs.Phantoms.{across, left_edge, top_edge, upwards};
 
-use crate::glyf::{GlyfTables, HEADER_SIZE, outline};
 use crate::gvar::GlyphVariations;
 use crate::phantoms::Phantoms;
 use crate::points::Point;
 use font_tables::bytes::i16_at;
 use font_tables::metrics::Metrics;
 use font_variations::rounding::float;
+use outline_tables::glyf::{GlyfTables, HEADER_SIZE, outline};
 use rb_common::GlyphId;
 use std::alloc::Global;
 

@@ -1,7 +1,7 @@
 -- The names of the glyphs of a CFF font.
 use Rattle.std.specs.Prelude.{ℕ, ℤ, pos, Bool, ◌||◌, List, Option, Some, None, ◌==◌, length, int_lt, nat_le, drop, unsigned_abs, if◌then◌else◌, option_map, option_and_then}
 use Rattle.font_tables.specs.Bytes.{byte_at}
-use Rattle.font_outlines.specs.Index.{index_size}
+use Rattle.outline_tables.specs.Index.{index_size}
 use Rattle.font_outlines.specs.Charset.{string_number, string_of}
 
 -- a text that is not empty

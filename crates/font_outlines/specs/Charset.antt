@@ -4,7 +4,7 @@ use Rattle.std.specs.Prelude.{option_map, option_and_then, unwrap_or}
 use Rattle.std.specs.List.{flat_map}
 use Rattle.font_tables.specs.Bytes.{byte_at, number_16}
 use Rattle.font_tables.specs.Rows.{first_row}
-use Rattle.font_outlines.specs.Index.{index_item}
+use Rattle.outline_tables.specs.Index.{index_item}
 use Rattle.font_outlines.specs.StandardStrings.{standard_string}
 
 -- the place of a range: each has the string number of its first glyph, and how many glyphs are left in it, of 8 bits or,

@@ -1,10 +1,5 @@
-pub mod Index
-pub mod Index2
 pub mod StandardStrings
 pub mod Charset
-pub mod Operand
-pub mod FontDicts
-pub mod Subroutines
 pub mod StandardEncoding
 pub mod Cff
 pub mod Outlines

@@ -3,7 +3,7 @@ use Rattle.std.specs.Prelude.{ℕ, ℤ, List, Option}
 use Rattle.rb_glyph.specs.declared.names.GlyphExtents.{GlyphExtents}
 use Rattle.font_outlines.specs.declared.cff.CffTable.{CffTable}
 use Rattle.font_outlines.specs.declared.outlines.Outlines.{Outlines}
-use Rattle.font_gvar.specs.Glyf.{glyf_extents}
+use Rattle.outline_tables.specs.Glyf.{glyf_extents}
 use Rattle.font_outlines.specs.Cff.{glyph_name}
 
 -- the box of a glyph by the tables `glyf` and `loca`

@@ -3,18 +3,18 @@
 
 ghost use Rattle.std.specs.Prelude.{◌≡◌};
 ghost use Rattle.std.specs.Option.{option_copied};
-ghost use Rattle.font_outlines.specs.Index.{index_count};
+ghost use Rattle.outline_tables.specs.Index.{index_count};
 ghost use Rattle.font_outlines.specs.Cff.{at_offset, behind};
 
 use crate::charset::{predefined_charset, string_number, string_of};
 use crate::charstring::{Accented, Drawing, Subroutines, draw_charstring};
-use crate::dict::Dict;
 use crate::extents::path_box;
-use crate::font_dicts::font_dict_of;
-use crate::index::{index_count, index_item, index_size};
 use crate::path::Bounds;
 use crate::standard_encoding::{encoded_string, glyph_of_string};
 use font_tables::bytes::{part, tail, u8_at};
+use outline_tables::Dict;
+use outline_tables::font_dicts::font_dict_of;
+use outline_tables::index::{index_count, index_item, index_size};
 use rb_common::GlyphId;
 use rb_glyph::GlyphExtents;
 
@@ -136,7 +136,7 @@ impl<'a> CffTable<'a> {
     }
 
     /// What the charstring of a glyph draws.
-    #[tactic(auto, unfolding(crate::specs::Index::index_item))]
+    #[tactic(auto, unfolding(outline_tables::specs::Index::index_item))]
     fn drawing(&self, glyph: GlyphId) -> Option<Drawing>
         ensures { IsSome result → glyph.0 < self.now.glyph_count }
     {

@@ -1,17 +1,17 @@
 //! Outlines of the table `CFF2` (OpenType specification, "CFF2 - Compact Font Format 2 Table").
 
 ghost use Rattle.std.specs.Prelude.{◌≡◌};
-ghost use Rattle.font_outlines.specs.Index2.{count_2};
+ghost use Rattle.outline_tables.specs.Index2.{count_2};
 
 use crate::cff::at_offset;
 use crate::charstring_2::{Setting2, draw_charstring_2};
-use crate::dict::Dict;
 use crate::extents::path_box;
-use crate::font_dicts::font_dict_of;
-use crate::index_2::{count_2, item_2};
 use crate::path::Bounds;
 use font_tables::bytes::{part, tail, u8_at, u16_at};
 use font_variations::VariationStore;
+use outline_tables::Dict;
+use outline_tables::font_dicts::font_dict_of;
+use outline_tables::index_2::{count_2, item_2};
 use rb_common::GlyphId;
 use rb_glyph::GlyphExtents;
 
@@ -70,7 +70,7 @@ impl<'a> Cff2Table<'a> {
     }
 
     /// The same box before it is rounded, in 65,536ths of a font unit.
-    #[tactic(auto, unfolding(crate::specs::Index2::item_2))]
+    #[tactic(auto, unfolding(outline_tables::specs::Index2::item_2))]
     pub fn path_bounds(&self, glyph: GlyphId, coordinates: &[i32]) -> Option<Bounds>
         ensures { IsSome result → glyph.0 < self.now.glyph_count }
     {

@@ -4,9 +4,9 @@ ghost use Rattle.std.specs.Prelude.{◌≡◌, ◌<◌, ◌^◌};
 ghost use Rattle.std.specs.Option.{option_copied};
 ghost use Rattle.font_outlines.specs.Charset.{charset_string, predefined_charset, range_left, range_place, range_string, string_number, string_of};
 
-use crate::index::index_item;
 use crate::standard_strings::standard_string;
 use font_tables::bytes::{u8_at, u16_at};
+use outline_tables::index::index_item;
 use rb_common::GlyphId;
 
 /// How many standard strings there are: the strings of a font follow them.

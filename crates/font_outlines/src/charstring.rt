@@ -1,14 +1,14 @@
 //! The path of a glyph that a charstring draws (The Type 2 Charstring Format).
-#![tactic(auto, using(crate::proofs::SignedLemmas::signed))]
+#![tactic(auto, using(outline_tables::proofs::SignedLemmas::signed))]
 
 ghost use Rattle.std.specs.Prelude.{◌≡◌, ◌≤◌, int_div, length, option_map, pos};
 ghost use Rattle.font_outlines.specs.Charstring.{move_from};
 
 use crate::curves::{draw_by, flex, flex_1, horizontal_flex, horizontal_flex_1};
-use crate::operand::{number, number_length};
 use crate::path::{Path, Point};
-use crate::subroutines::subroutine;
 use font_tables::bytes::{tail, u8_at, u32_at};
+use outline_tables::operand::{number, number_length};
+use outline_tables::subroutines::subroutine;
 
 /// How many numbers an operator may have before it, as HarfBuzz allows.
 const MOST_NUMBERS: usize = 513;
@@ -298,7 +298,7 @@ impl State {
     }
 
     /// An operator that draws, of one byte. One that is unknown does nothing.
-    #[tactic(auto, using(crate::proofs::SignedLemmas::signed), unfolding(crate::specs::Charstring::drawn))]
+    #[tactic(auto, using(outline_tables::proofs::SignedLemmas::signed), unfolding(crate::specs::Charstring::drawn))]
     fn draw(&mut self, operator: u8) -> Option<()>
         ensures { option_map (λ _. self.new.path) result ≡ drawn operator self.old.path (take self.old.count self.old.numbers) }
     {
@@ -314,7 +314,7 @@ impl State {
     }
 
     /// An operator of two bytes, by the second. One that is unknown does nothing.
-    #[tactic(auto, using(crate::proofs::SignedLemmas::signed), unfolding(crate::specs::Charstring::flexed))]
+    #[tactic(auto, using(outline_tables::proofs::SignedLemmas::signed), unfolding(crate::specs::Charstring::flexed))]
     fn flex(&mut self, operator: u8) -> Option<()>
         ensures is { option_map (λ _. self.new.path) result ≡ flexed operator self.old.path (take self.old.count self.old.numbers) }
         ensures count { self.new.count ≡ self.old.count }

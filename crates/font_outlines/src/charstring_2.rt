@@ -3,10 +3,10 @@
 ghost use Rattle.std.specs.Prelude.{◌≤◌};
 
 use crate::charstring::{DEEPEST_CALL, MOST_STEPS, State, UNIT};
-use crate::index_2::subroutine_2;
 use crate::path::Path;
 use font_tables::bytes::{tail, u8_at};
 use font_variations::VariationStore;
+use outline_tables::index_2::subroutine_2;
 use std::num::{nearest_i64_to_f64, saturating_f64_to_i32};
 
 /// What a charstring of `CFF2` is run with.

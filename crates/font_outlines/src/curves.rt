@@ -1,7 +1,7 @@
 //! The operators of charstrings that draw (The Type 2 Charstring Format, "Path Construction Operators").
 //!
 //! Each takes the numbers before it, in 65,536ths of a font unit. Numbers that make no whole line or curve do nothing.
-#![tactic(auto, using(crate::proofs::SignedLemmas::signed))]
+#![tactic(auto, using(outline_tables::proofs::SignedLemmas::signed))]
 
 ghost use Rattle.std.specs.Prelude.{◌≡◌, ◌+◌, ◌-◌, ◌/◌, ◌%◌, ◌<◌, length, option_map};
 ghost use Rattle.font_outlines.specs.Charstring.{across_first, across_last, alternating_curves, alternating_lines, curve_at, curves, curves_and_line, drawn_by, flex, flex_1, horizontal_flex, horizontal_flex_1, last_of_flex_1, lines, lines_and_curve, number, pair, parallel_curves, turned};
@@ -9,7 +9,7 @@ ghost use Rattle.font_outlines.specs.Charstring.{across_first, across_last, alte
 use crate::path::{Path, Point};
 
 /// An operator of one byte that draws. One that is unknown does nothing.
-#[tactic(auto, using(crate::proofs::SignedLemmas::signed), unfolding(crate::specs::Charstring::drawn_by))]
+#[tactic(auto, using(outline_tables::proofs::SignedLemmas::signed), unfolding(crate::specs::Charstring::drawn_by))]
 pub(crate) fn draw_by(path: &mut Path, operator: u8, numbers: &[i32])
     ensures { path.new ≡ drawn_by operator path.old numbers.now }
 {
@@ -29,7 +29,7 @@ pub(crate) fn draw_by(path: &mut Path, operator: u8, numbers: &[i32])
 }
 
 /// `rlineto`: lines.
-#[tactic(auto, using(crate::proofs::SignedLemmas::signed), unfolding(crate::specs::Charstring::lines))]
+#[tactic(auto, using(outline_tables::proofs::SignedLemmas::signed), unfolding(crate::specs::Charstring::lines))]
 fn lines(path: &mut Path, numbers: &[i32])
     ensures { path.new ≡ lines path.old numbers.now (length numbers.now / 2) }
 {
@@ -39,7 +39,7 @@ fn lines(path: &mut Path, numbers: &[i32])
 }
 
 /// `hlineto` and `vlineto`: lines that are horizontal and vertical in turn.
-#[tactic(auto, using(crate::proofs::SignedLemmas::signed), unfolding(crate::specs::Charstring::alternating_lines))]
+#[tactic(auto, using(outline_tables::proofs::SignedLemmas::signed), unfolding(crate::specs::Charstring::alternating_lines))]
 fn alternating_lines(path: &mut Path, numbers: &[i32], is_horizontal: bool)
     ensures { path.new ≡ alternating_lines is_horizontal path.old numbers.now (length numbers.now) }
 {
@@ -51,7 +51,7 @@ fn alternating_lines(path: &mut Path, numbers: &[i32], is_horizontal: bool)
 }
 
 /// `rrcurveto`: curves.
-#[tactic(auto, using(crate::proofs::SignedLemmas::signed), unfolding(crate::specs::Charstring::curves))]
+#[tactic(auto, using(outline_tables::proofs::SignedLemmas::signed), unfolding(crate::specs::Charstring::curves))]
 fn curves(path: &mut Path, numbers: &[i32])
     ensures { path.new ≡ curves path.old numbers.now (length numbers.now / 6) }
 {
@@ -61,7 +61,7 @@ fn curves(path: &mut Path, numbers: &[i32])
 }
 
 /// `rcurveline`: curves, and a line.
-#[tactic(auto, using(crate::proofs::SignedLemmas::signed), unfolding(crate::specs::Charstring::curves))]
+#[tactic(auto, using(outline_tables::proofs::SignedLemmas::signed), unfolding(crate::specs::Charstring::curves))]
 fn curves_and_line(path: &mut Path, numbers: &[i32])
     ensures { path.new ≡ curves_and_line path.old numbers.now }
 {
@@ -76,7 +76,7 @@ fn curves_and_line(path: &mut Path, numbers: &[i32])
 }
 
 /// `rlinecurve`: lines, and a curve.
-#[tactic(auto, using(crate::proofs::SignedLemmas::signed), unfolding(crate::specs::Charstring::lines))]
+#[tactic(auto, using(outline_tables::proofs::SignedLemmas::signed), unfolding(crate::specs::Charstring::lines))]
 fn lines_and_curve(path: &mut Path, numbers: &[i32])
     ensures { path.new ≡ lines_and_curve path.old numbers.now }
 {
@@ -92,7 +92,7 @@ fn lines_and_curve(path: &mut Path, numbers: &[i32])
 
 /// `hhcurveto` and `vvcurveto`: curves that begin and end in one direction, with a number before them for how far the
 /// first one begins across it.
-#[tactic(auto, using(crate::proofs::SignedLemmas::signed), unfolding(crate::specs::Charstring::parallel_curves))]
+#[tactic(auto, using(outline_tables::proofs::SignedLemmas::signed), unfolding(crate::specs::Charstring::parallel_curves))]
 fn parallel_curves(path: &mut Path, numbers: &[i32], is_horizontal: bool)
     ensures { path.new ≡ parallel_curves is_horizontal path.old numbers.now ((length numbers.now - length numbers.now % 2) / 4) }
 {
@@ -124,7 +124,7 @@ fn across_first(numbers: &[i32], curve: usize) -> i64
 
 /// `hvcurveto` and `vhcurveto`: curves that begin and end in different directions, of which each goes on as the one before
 /// it ended, with a number behind them for how far the last one ends across its direction.
-#[tactic(auto, using(crate::proofs::SignedLemmas::signed), unfolding(crate::specs::Charstring::alternating_curves))]
+#[tactic(auto, using(outline_tables::proofs::SignedLemmas::signed), unfolding(crate::specs::Charstring::alternating_curves))]
 fn alternating_curves(path: &mut Path, numbers: &[i32], is_horizontal: bool)
     ensures { path.new ≡ alternating_curves is_horizontal path.old numbers.now (length numbers.now / 4) }
 {

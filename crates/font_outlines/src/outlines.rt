@@ -1,7 +1,7 @@
 //! The outlines of a font, of either kind.
 
 use crate::cff::CffTable;
-use font_gvar::GlyfTables;
+use outline_tables::GlyfTables;
 use rb_common::GlyphId;
 use rb_glyph::GlyphExtents;
 

@@ -17,7 +17,7 @@ impl Point {
     /// The point that lies so far from this one.
     ///
     /// Numbers of a charstring are below 2³¹, and its steps are at most 200,000: so no sum is cut off at the limits.
-    #[tactic(auto, using(crate::proofs::SignedLemmas::signed))]
+    #[tactic(auto, using(outline_tables::proofs::SignedLemmas::signed))]
     pub(crate) fn moved(self, by: Point) -> Point
         ensures { result ≡ moved self by }
     {
@@ -28,7 +28,7 @@ impl Point {
     }
 
     /// How far it is from this point to another.
-    #[tactic(auto, using(crate::proofs::SignedLemmas::signed))]
+    #[tactic(auto, using(outline_tables::proofs::SignedLemmas::signed))]
     pub(crate) fn to(self, other: Point) -> Point
         ensures { result ≡ to self other }
     {

@@ -80,9 +80,9 @@ use internals::{
     glyph_digests, glyph_lists, glyph_sides, glyph_text, line_formats, numbers, ot_apply,
     ot_attachments, ot_characters, ot_contexts, ot_gpos, ot_gpos_tables, ot_gsub, ot_kern,
     ot_layout, ot_lookups, ot_map, ot_normalization, ot_plan, ot_positioning, ot_positions,
-    ot_shape, ot_substitution, ot_tags, runs, script_indic, script_items, script_joining,
-    script_letters, script_shapers, script_syllables, script_universal, text, universal_categories,
-    verification,
+    ot_shape, ot_substitution, ot_tags, outline_tables, runs, script_indic, script_items,
+    script_joining, script_letters, script_shapers, script_syllables, script_universal, text,
+    universal_categories, verification,
 };
 
 pub use facade::*;

@@ -11,9 +11,9 @@ use crate::outline::dict::{
 use crate::sfnt::{tail, u16_at};
 use vukhaso::GlyphId;
 use vukhaso::internals::font_outlines::charset::string_number;
-use vukhaso::internals::font_outlines::index::index_size;
 use vukhaso::internals::font_outlines::{Cff2Table, CffTable};
 use vukhaso::internals::font_variations::VariationStore;
+use vukhaso::internals::outline_tables::index::index_size;
 
 /// How many bytes the count of an INDEX has.
 const COUNT_SIZE: usize = 2;

@@ -1,14 +1,14 @@
-//! Tests of `font_outlines`, and of boxes in `glyf`. The boxes of charstrings are those that HarfBuzz's `hb-shape --show-extents` prints.
+//! Tests of `font_outlines` and `outline_tables`. The boxes of charstrings are those that HarfBuzz's `hb-shape --show-extents` prints.
 
 use vukhaso::internals::common::GlyphId;
-use vukhaso::internals::font_gvar::GlyfTables;
-use vukhaso::internals::font_gvar::glyf::outline;
 use vukhaso::internals::font_outlines::charset::{predefined_charset, string_number, string_of};
-use vukhaso::internals::font_outlines::index::{index_count, index_item, index_size};
 use vukhaso::internals::font_outlines::standard_strings::standard_string;
 use vukhaso::internals::font_outlines::{CffTable, Outlines};
 use vukhaso::internals::font_variations::index_map::number_of_size;
 use vukhaso::internals::glyph::GlyphExtents;
+use vukhaso::internals::outline_tables::GlyfTables;
+use vukhaso::internals::outline_tables::glyf::outline;
+use vukhaso::internals::outline_tables::index::{index_count, index_item, index_size};
 
 /// The numbers of a box: its left side, its top, its width and its height.
 fn box_of(extents: Option<GlyphExtents>) -> Option<[i32; 4]> {

@@ -3,10 +3,11 @@
 use vukhaso::internals::common::GlyphId;
 use vukhaso::internals::font_colors::{ColrTable, DrawnOutlines};
 use vukhaso::internals::font_gvar::{
-    GlyfTables, GlyphSources, GlyphVariations, Point, varied_outline, varied_phantoms,
+    GlyphSources, GlyphVariations, Point, varied_outline, varied_phantoms,
 };
 use vukhaso::internals::font_tables::metrics::Metrics;
 use vukhaso::internals::font_tables::scale::Scale;
+use vukhaso::internals::outline_tables::GlyfTables;
 
 /// A triangle from the origin to 100 across and 100 up.
 static GLYF: [u8; 20] = [

@@ -1,9 +1,11 @@
 -- Where a glyph's outline lies, and the box that its header names (OpenType specification, `loca` and `glyf`).
-use Rattle.std.specs.Prelude.{ℕ, ℤ, pos, Bool, ◌&&◌, List, [], Option, None, ◌+◌, ◌-◌, ◌*◌, ◌-ℤ◌, length, take, drop, nat_le, nat_lt, if◌then◌else◌}
+use Rattle.std.specs.Prelude.{ℕ, ℤ, pos, Bool, ◌&&◌, List, [], Option, None, ◌+◌, ◌-◌, ◌*◌, ◌-ℤ◌, length, take, drop, nat_eq, nat_le, nat_lt, if◌then◌else◌}
 use Rattle.std.specs.Prelude.{option_map, option_and_then, unwrap_or}
 use Rattle.std.specs.Int.{int_min, int_max}
 use Rattle.rb_glyph.specs.declared.names.GlyphExtents.{GlyphExtents}
 use Rattle.font_tables.specs.Bytes.{number_16, number_32, signed_16}
+use Rattle.outline_tables.specs.declared.glyf.OutlineKind.{OutlineKind}
+use Rattle.outline_tables.specs.declared.glyf.OutlineKind.TheVariants.{Empty, Simple, Composite}
 
 -- the offset of a number in `loca`, in bytes: offsets of 16 bits count pairs of bytes
 abbrev pub location : List ℕ → Bool → ℕ → Option ℕ
@@ -44,6 +46,12 @@ header_box header bearing =
 -- whether an outline has contours, of its own or of the glyphs that it is made of
 abbrev pub has_contours : List ℕ → Bool
 has_contours header = nat_lt 0 (unwrap_or (number_16 header 0) 0)
+
+-- what an outline is, by its number of contours: it has none, or so many, or a negative number, where it is put together of other glyphs
+abbrev pub outline_kind : List ℕ → OutlineKind
+outline_kind header =
+    let contours = unwrap_or (number_16 header 0) 0 in
+    if nat_eq contours 0 then Empty else if nat_lt contours 0x8000 then Simple contours else Composite
 
 -- the box of an outline
 abbrev pub outline_box : List ℕ → Option ℤ → GlyphExtents

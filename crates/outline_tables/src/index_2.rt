@@ -3,15 +3,15 @@
 
 ghost use Rattle.std.specs.Prelude.{◌≡◌, ◌+◌, ◌<◌, ◌≤◌, ◌^◌};
 ghost use Rattle.std.specs.Option.{option_copied};
-ghost use Rattle.font_outlines.specs.Index2.{base_2, count_2, item_2, offset_2, offset_size_2, subroutine_2};
+ghost use Rattle.outline_tables.specs.Index2.{base_2, count_2, item_2, offset_2, offset_size_2, subroutine_2};
 
+use crate::glyf::between;
 use crate::subroutines::bias;
-use font_gvar::glyf::between;
 use font_tables::bytes::{u8_at, u32_at};
 use font_variations::index_map::number_of_size;
 
 /// How many items an INDEX has; none where the table is empty.
-pub(crate) fn count_2(index: &[u8]) -> u32
+pub fn count_2(index: &[u8]) -> u32
     ensures { result ≡ count_2 index.now }
 {
     u32_at(index, 0).unwrap_or(0)
@@ -43,7 +43,7 @@ fn base_2(index: &[u8]) -> usize
 
 /// The bytes of an item; `None` where the INDEX has no such item.
 #[tactic(auto, unfolding(crate::specs::Index2::item_2))]
-pub(crate) fn item_2(index: &[u8], number: u32) -> Option<&[u8]>
+pub fn item_2(index: &[u8], number: u32) -> Option<&[u8]>
     ensures { option_copied result ≡ item_2 index.now number }
 {
     if number < count_2(index) {
@@ -58,7 +58,7 @@ pub(crate) fn item_2(index: &[u8], number: u32) -> Option<&[u8]>
 
 /// The subroutine that a number calls in an INDEX; `None` where there is no such one.
 #[tactic(auto, unfolding(crate::specs::Index2::subroutine_2))]
-pub(crate) fn subroutine_2(index: &[u8], number: i32) -> Option<&[u8]>
+pub fn subroutine_2(index: &[u8], number: i32) -> Option<&[u8]>
     ensures { option_copied result ≡ subroutine_2 index.now number }
 {
     let place = i64::from(number) + i64::from(bias(count_2(index)));

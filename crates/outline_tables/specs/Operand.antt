@@ -1,13 +1,13 @@
 -- Numbers in DICT data and in charstrings (The Compact Font Format Specification, "DICT Data", and The Type 2 Charstring
 -- Format, "Charstring Number Encoding").
-use Rattle.std.specs.Prelude.{ℕ, ℤ, pos, Bool, true, ◌&&◌, ◌||◌, List, Option, Some, None, ◌==◌, ◌+◌, ◌-◌, ◌*◌, ◌/◌, ◌%◌, ◌-ℤ◌, nat_le, drop, position, if◌then◌else◌}
+use Rattle.std.specs.Prelude.{ℕ, zero, suc, ℤ, pos, Bool, true, false, ◌&&◌, ◌||◌, List, Option, Some, None, ◌==◌, ◌+◌, ◌-◌, ◌*◌, ◌/◌, ◌%◌, ◌-ℤ◌, ◌^◌, length, min, nat_le, drop, position, if◌then◌else◌}
 use Rattle.std.specs.Prelude.{option_map, option_and_then}
 use Rattle.std.specs.Int.{cast_signed, w32}
 use Rattle.font_tables.specs.Bytes.{byte_at, number_32, signed_16}
-use Rattle.font_outlines.specs.declared.dict.Dict.{Dict}
-use Rattle.font_outlines.specs.declared.dict.Numbers.{Numbers}
-use Rattle.font_outlines.specs.declared.dict.Token.{Token}
-use Rattle.font_outlines.specs.declared.dict.Token.TheVariants.{Number, Operator}
+use Rattle.outline_tables.specs.declared.dict.Dict.{Dict}
+use Rattle.outline_tables.specs.declared.dict.Numbers.{Numbers}
+use Rattle.outline_tables.specs.declared.dict.Token.{Token}
+use Rattle.outline_tables.specs.declared.dict.Token.TheVariants.{Number, Operator}
 
 -- a number from one to another
 abbrev pub is_from : ℕ → ℕ → ℕ → Bool
@@ -83,3 +83,42 @@ said dict operator ns =
     else if operator == 256 + 30 then record dict { is_cid = true }
     else if operator == 256 + 36 then record dict { font_dicts = ns.last }
     else if operator == 256 + 37 then record dict { font_dict_select = ns.last } else dict
+
+-- a DICT that says nothing, no numbers, and numbers with one more
+abbrev pub no_dict : Dict
+no_dict = record {
+  charset = pos 0;
+  char_strings = pos 0;
+  private_size = pos 0;
+  private_offset = pos 0;
+  subroutines = pos 0;
+  font_dicts = pos 0;
+  font_dict_select = pos 0;
+  variation_store = pos 0;
+  variation_set = pos 0;
+  is_cid = false;
+}
+
+abbrev pub no_numbers : Numbers
+no_numbers = record { count = 0; last = pos 0; before = pos 0 }
+
+abbrev pub with_number : Numbers → ℤ → Numbers
+with_number ns n = record { count = min (ns.count + 1) (2 ^ 64 - 1); last = n; before = ns.last }
+
+-- what is said behind a number or an operator, and the numbers behind it; `None` where an operator has too few
+abbrev pub behind_one : Dict → Numbers → Token → Option (Dict × Numbers)
+behind_one dict ns (Number n) = Some (dict, with_number ns n)
+behind_one dict ns (Operator operator) =
+    if nat_le (takes operator) ns.count then Some (said dict operator ns, no_numbers) else None
+
+-- what is said at the end of bytes, of so many numbers and operators at most
+unfoldable pub said_by : ℕ → Dict → Numbers → List ℕ → Option Dict
+said_by zero dict ns bs = Some dict
+said_by (suc n) dict ns bs =
+    if length bs == 0 then Some dict
+    else option_and_then (λ t. option_and_then (λ so. option_and_then (said_by n so.0 so.1) (behind_token bs)) (behind_one dict ns t))
+    (token bs)
+
+-- what DICT data say, of which each number or operator has a byte at least; `None` where they are broken
+abbrev pub dict_of : List ℕ → Option Dict
+dict_of bs = said_by (length bs) no_dict no_numbers bs

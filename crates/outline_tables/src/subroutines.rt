@@ -2,13 +2,13 @@
 
 ghost use Rattle.std.specs.Prelude.{◌≡◌};
 ghost use Rattle.std.specs.Option.{option_copied};
-ghost use Rattle.font_outlines.specs.Subroutines.{bias, subroutine};
+ghost use Rattle.outline_tables.specs.Subroutines.{bias, subroutine};
 
 use crate::index::{index_count, index_item};
 
 /// The subroutine that a number calls in an INDEX; `None` where there is no such one.
 #[tactic(auto, unfolding(crate::specs::Subroutines::subroutine))]
-pub(crate) fn subroutine(index: &[u8], number: i32) -> Option<&[u8]>
+pub fn subroutine(index: &[u8], number: i32) -> Option<&[u8]>
     ensures { option_copied result ≡ subroutine index.now number }
 {
     let place = i64::from(number) + i64::from(bias(u32::from(index_count(index))));

@@ -3,8 +3,8 @@ use Rattle.std.specs.Prelude.{ℕ, ℤ, pos, negsuc, ◌+ℤ◌, List, Option, N
 use Rattle.std.specs.Prelude.{option_map, option_and_then, unwrap_or}
 use Rattle.font_tables.specs.Bytes.{byte_at, number_32}
 use Rattle.font_variations.specs.IndexMap.{number_of_size}
-use Rattle.font_gvar.specs.Glyf.{between}
-use Rattle.font_outlines.specs.Subroutines.{bias}
+use Rattle.outline_tables.specs.Glyf.{between}
+use Rattle.outline_tables.specs.Subroutines.{bias}
 
 -- how many items there are
 abbrev pub count_2 : List ℕ → ℕ

@@ -2,9 +2,9 @@
 
 ghost use Rattle.std.specs.Prelude.{◌≡◌, ◌+◌};
 ghost use Rattle.std.specs.Option.{option_copied};
-ghost use Rattle.font_outlines.specs.Index.{index_count, index_item, index_offset, index_size, offset_size};
+ghost use Rattle.outline_tables.specs.Index.{index_count, index_item, index_offset, index_size, offset_size};
 
-use font_gvar::glyf::between;
+use crate::glyf::between;
 use font_tables::bytes::{u8_at, u16_at};
 use font_variations::index_map::number_of_size;
 
@@ -32,7 +32,7 @@ fn index_offset(index: &[u8], number: u32) -> Option<u32>
 
 /// The place that offsets count from: the byte before the first item.
 fn index_base(index: &[u8]) -> u32
-    ensures { result ≡ Rattle.font_outlines.specs.Index.index_base index.now }
+    ensures { result ≡ Rattle.outline_tables.specs.Index.index_base index.now }
 {
     2 + u32::from(offset_size(index)) * (u32::from(index_count(index)) + 1)
 }

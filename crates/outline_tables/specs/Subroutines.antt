@@ -1,6 +1,6 @@
 -- The subroutines of charstrings (The Type 2 Charstring Format, "Subroutine Operators").
 use Rattle.std.specs.Prelude.{ℕ, ℤ, pos, negsuc, ◌+ℤ◌, List, Option, None, nat_lt, if◌then◌else◌}
-use Rattle.font_outlines.specs.Index.{index_count, index_item}
+use Rattle.outline_tables.specs.Index.{index_count, index_item}
 
 -- what is added to a subroutine's number, by how many there are
 abbrev pub bias : ℕ → ℕ

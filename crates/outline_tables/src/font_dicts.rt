@@ -1,7 +1,7 @@
 //! The Font DICT of a glyph of a CID-keyed font (The Compact Font Format Specification, "FDSelect").
 
 ghost use Rattle.std.specs.Prelude.{◌≡◌};
-ghost use Rattle.font_outlines.specs.FontDicts.{font_dict_of, ranged_dict, range_with};
+ghost use Rattle.outline_tables.specs.FontDicts.{font_dict_of, ranged_dict, range_with};
 
 use font_tables::bytes::{u8_at, u16_at};
 use font_tables::rows::{Keys16, first_row};
@@ -9,7 +9,7 @@ use rb_common::GlyphId;
 
 /// The number of a glyph's Font DICT, by a table that chooses it; `None` where the table does not reach the glyph.
 #[tactic(auto, unfolding(crate::specs::FontDicts::font_dict_of))]
-pub(crate) fn font_dict_of(select: &[u8], glyph: GlyphId) -> Option<u8>
+pub fn font_dict_of(select: &[u8], glyph: GlyphId) -> Option<u8>
     ensures { result ≡ font_dict_of select.now glyph.0 }
 {
     match u8_at(select, 0)? {

@@ -3,7 +3,7 @@ use Rattle.std.specs.Prelude.{ℕ, List, Option, Some, None, ◌==◌, ◌+◌, 
 use Rattle.std.specs.Prelude.{option_map, option_and_then, unwrap_or}
 use Rattle.font_tables.specs.Bytes.{byte_at, number_16}
 use Rattle.font_variations.specs.IndexMap.{number_of_size}
-use Rattle.font_gvar.specs.Glyf.{between}
+use Rattle.outline_tables.specs.Glyf.{between}
 
 -- how many items there are
 abbrev pub index_count : List ℕ → ℕ

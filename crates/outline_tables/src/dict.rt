@@ -3,14 +3,14 @@
 
 ghost use Rattle.std.specs.Prelude.{◌≡◌, ◌+◌, ◌-◌, ◌^◌, ◌<◌, ◌≤◌, ◌↔◌, Some, IfNone, IfSome, IsSome, length, min, option_map};
 ghost use Rattle.std.specs.Option.{option_copied};
-ghost use Rattle.font_outlines.specs.Operand.{behind_real, behind_token, real_end, said, takes, token};
+ghost use Rattle.outline_tables.specs.Operand.{behind_real, behind_token, dict_of, no_numbers, real_end, said, takes, token, with_number};
 
 use crate::operand::{number, number_length};
 use font_tables::bytes::{tail, u8_at, u32_at};
 
 /// What outlines need of a Top DICT, a Font DICT or a Private DICT: 0 where the DICT does not say it.
 #[derive(Clone, Copy, Default)]
-pub(crate) struct Dict {
+pub struct Dict {
     /// The offset of the charset, or the number of a predefined one.
     pub charset: i32,
     /// The offset of the INDEX of charstrings.
@@ -41,7 +41,7 @@ enum Token {
 }
 
 /// The numbers before an operator.
-#[derive(Clone, Copy, Default)]
+#[derive(Clone, Copy)]
 struct Numbers {
     count: usize,
     last: i32,
@@ -50,9 +50,12 @@ struct Numbers {
 
 impl Dict {
     /// What DICT data say; `None` where they are broken.
-    pub(crate) fn read(data: &[u8]) -> Option<Dict> {
+    #[tactic(auto, using(crate::proofs::SignedLemmas::signed), unfolding(crate::specs::Operand::said_by))]
+    pub fn read(data: &[u8]) -> Option<Dict>
+        ensures { result ≡ dict_of data.now }
+    {
         let mut dict = Dict::default();
-        let mut numbers = Numbers::default();
+        let mut numbers = Numbers::none();
         let mut rest = data;
         for _ in data {
             if rest.is_empty() {
@@ -63,7 +66,7 @@ impl Dict {
                 Token::Number(number) => numbers.push(number),
                 Token::Operator(operator) => {
                     dict.set(operator, numbers)?;
-                    numbers = Numbers::default();
+                    numbers = Numbers::none();
                 }
             }
             rest = after;
@@ -116,8 +119,18 @@ const ESCAPED_FD_ARRAY: u16 = 292;
 const ESCAPED_FD_SELECT: u16 = 293;
 
 impl Numbers {
+    fn none() -> Self
+        ensures { result ≡ no_numbers }
+    {
+        Numbers {
+            count: 0,
+            last: 0,
+            before: 0,
+        }
+    }
+
     fn push(&mut self, number: i32)
-        ensures { self.new ≡ record { count = min (self.old.count + 1) (2 ^ 64 - 1); last = number; before = self.old.last } }
+        ensures { self.new ≡ with_number self.old number }
     {
         self.before = self.last;
         self.last = number;

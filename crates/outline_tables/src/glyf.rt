@@ -2,7 +2,7 @@
 
 ghost use Rattle.std.specs.Prelude.{◌≡◌, ◌+◌, ◌-ℤ◌};
 ghost use Rattle.std.specs.Option.{option_copied};
-ghost use Rattle.font_gvar.specs.Glyf.{between, box_between, glyf_extents, header_box, location, outline, outline_box};
+ghost use Rattle.outline_tables.specs.Glyf.{between, box_between, glyf_extents, header_box, location, outline, outline_box, outline_kind};
 
 use font_tables::bytes::{i16_at, part, u16_at, u32_at};
 use rb_common::GlyphId;
@@ -131,11 +131,11 @@ fn distance(from: i16, to: i16) -> i32
 }
 
 /// How many bytes the header of an outline has.
-pub(crate) const HEADER_SIZE: usize = 10;
+pub const HEADER_SIZE: usize = 10;
 
 /// What an outline is.
 #[derive(Clone, Copy)]
-pub(crate) enum OutlineKind {
+pub enum OutlineKind {
     /// It has no points.
     Empty,
     /// It has so many contours.
@@ -145,7 +145,9 @@ pub(crate) enum OutlineKind {
 }
 
 /// What an outline is, by its number of contours.
-pub(crate) fn outline_kind(outline: &[u8]) -> OutlineKind {
+pub fn outline_kind(outline: &[u8]) -> OutlineKind
+    ensures { result ≡ outline_kind outline.now }
+{
     match u16_at(outline, 0).unwrap_or(0) {
         0 => OutlineKind::Empty,
         count if count < 0x8000 => OutlineKind::Simple(count),

@@ -2,13 +2,13 @@
 //! Format, "Charstring Number Encoding").
 
 ghost use Rattle.std.specs.Prelude.{◌≡◌};
-ghost use Rattle.font_outlines.specs.Operand.{number, number_length};
+ghost use Rattle.outline_tables.specs.Operand.{number, number_length};
 
 use font_tables::bytes::{i16_at, u8_at};
 
 /// The number at the front of DICT data or of a charstring, in the forms that both have; `None` where there is none.
 #[tactic(auto, unfolding(crate::specs::Operand::number))]
-pub(crate) fn number(code: &[u8]) -> Option<i16>
+pub fn number(code: &[u8]) -> Option<i16>
     ensures { result ≡ number code.now }
 {
     let first = u8_at(code, 0)?;
@@ -30,7 +30,7 @@ pub(crate) fn number(code: &[u8]) -> Option<i16>
 }
 
 /// How many bytes a number has, by the first of them.
-pub(crate) fn number_length(first: u8) -> usize
+pub fn number_length(first: u8) -> usize
     ensures { result ≡ number_length first }
 {
     match first {
