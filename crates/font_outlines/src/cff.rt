@@ -44,13 +44,18 @@ pub struct CffTable<'a> {
 
 impl<'a> CffTable<'a> {
     ghost use Rattle.std.specs.Prelude.{◌<◌, Some, IfSome, IsSome};
-    ghost use Rattle.font_outlines.specs.Cff.{font_strings, glyph_name};
+    ghost use Rattle.font_outlines.specs.Cff.{font_strings, glyph_name, top_dict};
 
     /// The table in these bytes, of a font with so many glyphs; `None` where it is broken, or has another number of glyphs.
-    #[tactic(auto, unfolding(crate::specs::Cff::font_strings))]
+    #[tactic(auto, unfolding(crate::specs::Cff::font_strings, crate::specs::Cff::top_dict))]
     pub fn parse(table: &'a [u8], glyph_count: u16) -> Option<Self>
         ensures glyphs { IfSome result (λ cff. cff.glyph_count ≡ glyph_count) }
+        ensures table { IfSome result (λ cff. cff.table.now ≡ table.now) }
+        ensures top { IfSome result (λ cff. top_dict table.now ≡ Some cff.top) }
+        ensures keyed { IfSome result (λ cff. cff.is_cid ≡ cff.top.is_cid) }
         ensures strings { IfSome result (λ cff. font_strings table.now ≡ Some cff.strings.now) }
+        ensures subroutines { IfSome result (λ cff. behind cff.strings.now ≡ Some cff.global_subroutines.now) }
+        ensures charstrings { IfSome result (λ cff. at_offset table.now cff.top.char_strings ≡ Some cff.char_strings.now) }
     {
         if u8_at(table, 0)? != 1 {
             return None;

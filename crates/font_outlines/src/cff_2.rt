@@ -34,11 +34,18 @@ pub struct Cff2Table<'a> {
 }
 
 impl<'a> Cff2Table<'a> {
-    ghost use Rattle.std.specs.Prelude.{◌<◌, IfSome, IsSome};
+    ghost use Rattle.std.specs.Prelude.{◌<◌, Some, IfSome, IsSome};
+    ghost use Rattle.font_outlines.specs.Cff.{at_offset, global_subroutines_2, store_2, top_dict_2};
 
     /// The table in these bytes, of a font with so many glyphs; `None` where it is broken, or has another number of glyphs.
+    #[tactic(auto, unfolding(crate::specs::Cff::top_dict_2, crate::specs::Cff::global_subroutines_2))]
     pub fn parse(table: &'a [u8], glyph_count: u16) -> Option<Self>
-        ensures { IfSome result (λ cff. cff.glyph_count ≡ glyph_count) }
+        ensures glyphs { IfSome result (λ cff. cff.glyph_count ≡ glyph_count) }
+        ensures table { IfSome result (λ cff. cff.table.now ≡ table.now) }
+        ensures top { IfSome result (λ cff. top_dict_2 table.now ≡ Some cff.top) }
+        ensures charstrings { IfSome result (λ cff. at_offset table.now cff.top.char_strings ≡ Some cff.char_strings.now) }
+        ensures subroutines { IfSome result (λ cff. global_subroutines_2 table.now ≡ Some cff.global_subroutines.now) }
+        ensures store { IfSome result (λ cff. cff.store.table.now ≡ store_2 table.now cff.top.variation_store) }
     {
         if u8_at(table, 0)? != 2 {
             return None;
