@@ -1,5 +1,7 @@
 //! The points of a tuple, and their deltas.
 
+ghost use Rattle.std.specs.Prelude.{◌≡◌, ◌+◌, ◌-◌, ◌^◌, min, true, Some, IfSome};
+
 use crate::points::Point;
 use crate::tuples::Tuple;
 use font_variations::packed_deltas::PackedDeltas;
@@ -20,7 +22,11 @@ pub(crate) struct TupleDeltas<'a> {
 impl<'a> TupleDeltas<'a> {
     /// The points of a tuple, from the one with a number on, of a glyph with so many points, phantom points among them; `None` where they
     /// are broken.
-    pub(crate) fn new(tuple: &Tuple<'a>, point_count: u32, first: u32) -> Option<Self> {
+    pub(crate) fn new(tuple: &Tuple<'a>, point_count: u32, first: u32) -> Option<Self>
+        ensures first { IfSome result (λ found. found.next ≡ first) }
+        ensures alike { IfSome result (λ found. found.x.left ≡ found.y.left) }
+        ensures all { IfSome result (λ found. found.is_for_all ≡ true → found.x.left + first ≡ point_count) }
+    {
         let data = tuple.data?;
         let (mut points, deltas) = if tuple.has_points() {
             let points = PackedPoints::new(data)?;
@@ -29,11 +35,7 @@ impl<'a> TupleDeltas<'a> {
             (tuple.shared_points, data)
         };
         let is_for_all = points.left() == 0;
-        let (count, skipped) = if is_for_all {
-            (point_count, first)
-        } else {
-            (u32::from(points.left()), points.skip_below(first))
-        };
+        let (count, skipped) = counts_of(&mut points, is_for_all, point_count, first);
         let mut x = PackedDeltas::new(deltas, count);
         x.skip(skipped)?;
         let mut y = PackedDeltas::new(x.behind()?, count);
@@ -49,16 +51,16 @@ impl<'a> TupleDeltas<'a> {
     }
 
     /// The next point, by its number, and its delta; `None` behind the last one.
-    pub(crate) fn next(&mut self) -> Option<(u32, Point)> {
+    pub(crate) fn next(&mut self) -> Option<(u32, Point)>
+        ensures alike { self.old.x.left ≡ self.old.y.left → IfSome result (λ _. self.new.x.left ≡ self.new.y.left) }
+        ensures taken { IfSome result (λ _. self.new.x.left + 1 ≡ self.old.x.left) }
+        ensures kind { self.new.is_for_all ≡ self.old.is_for_all }
+        ensures point { self.old.is_for_all ≡ true → IfSome result (λ found. found.0 ≡ self.old.next) }
+        ensures behind { self.old.is_for_all ≡ true → IfSome result (λ _. self.new.next ≡ min (self.old.next + 1) (2 ^ 32 - 1)) }
+    {
         let x = self.x.next()?;
         let y = self.y.next()?;
-        let point = if self.is_for_all {
-            let point = self.next;
-            self.next = point.saturating_add(1);
-            point
-        } else {
-            self.points.next()?
-        };
+        let point = self.next_point()?;
         let delta = Point {
             x: float(x),
             y: float(y),
@@ -66,8 +68,44 @@ impl<'a> TupleDeltas<'a> {
         Some((point, delta))
     }
 
+    /// The number of the next point.
+    fn next_point(&mut self) -> Option<u32>
+        ensures kind { self.new.is_for_all ≡ self.old.is_for_all }
+        ensures x { self.new.x ≡ self.old.x }
+        ensures y { self.new.y ≡ self.old.y }
+        ensures point { self.old.is_for_all ≡ true → result ≡ Some self.old.next }
+        ensures behind { self.old.is_for_all ≡ true → self.new.next ≡ min (self.old.next + 1) (2 ^ 32 - 1) }
+    {
+        if self.is_for_all {
+            let point = self.next;
+            self.next = point.saturating_add(1);
+            Some(point)
+        } else {
+            self.points.next()
+        }
+    }
+
     /// How many points are left.
-    pub(crate) fn left(&self) -> u32 {
+    pub(crate) fn left(&self) -> u32
+        ensures { result ≡ self.now.x.left }
+    {
         self.x.left()
+    }
+}
+
+/// How many deltas there are on each axis, and how many of them are passed over, of a glyph with so many points, up to the one with a number.
+fn counts_of(
+    points: &mut PackedPoints<'_>,
+    is_for_all: bool,
+    point_count: u32,
+    first: u32,
+) -> (u32, u32)
+    ensures count { is_for_all ≡ true → result.0 ≡ point_count }
+    ensures skipped { is_for_all ≡ true → result.1 ≡ first }
+{
+    if is_for_all {
+        (point_count, first)
+    } else {
+        (u32::from(points.left()), points.skip_below(first))
     }
 }
