@@ -28,6 +28,7 @@ pub(crate) fn mask_rephs(buffer: &mut hb_buffer_t, mask: u32)
 }
 
 /// The mask of rephs.
+#[derive(Drop)]
 struct RephMask(u32);
 
 impl SyllableWork for RephMask {
