@@ -40,6 +40,7 @@ pub mod ot_positions;
 pub mod ot_shape;
 pub mod ot_substitution;
 pub mod ot_tags;
+pub mod outline_tables;
 pub mod passes;
 pub mod runs;
 pub mod script_indic;
@@ -49,6 +50,7 @@ pub mod script_letters;
 pub mod script_shapers;
 pub mod script_syllables;
 pub mod script_universal;
+pub mod steps;
 pub mod text;
 pub mod unicode_tables;
 pub mod universal_categories;
@@ -68,6 +70,9 @@ pub mod lines;
 
 #[cfg(feature = "std")]
 pub(crate) mod kept;
+
+#[cfg(feature = "std")]
+pub(crate) mod answers;
 
 #[cfg(feature = "std")]
 pub(crate) mod command;

@@ -63,6 +63,8 @@ mod host;
 mod jobs;
 
 #[cfg(feature = "std")]
+use internals::answers;
+#[cfg(feature = "std")]
 use internals::command;
 #[cfg(feature = "std")]
 use internals::fonts;
@@ -81,8 +83,8 @@ use internals::{
     ot_attachments, ot_characters, ot_contexts, ot_gpos, ot_gpos_tables, ot_gsub, ot_kern,
     ot_layout, ot_lookups, ot_map, ot_normalization, ot_plan, ot_positioning, ot_positions,
     ot_shape, ot_substitution, ot_tags, outline_tables, runs, script_indic, script_items,
-    script_joining, script_letters, script_shapers, script_syllables, script_universal, text,
-    universal_categories, verification,
+    script_joining, script_letters, script_shapers, script_syllables, script_universal, steps,
+    text, universal_categories, verification,
 };
 
 pub use facade::*;

@@ -14,5 +14,5 @@ pub mod skipping_iterator;
 
 pub use budget::Budget;
 pub use matcher::Matcher;
-pub use search::{ApplyContext, MatchPositions, Reach, Search};
+pub use search::{ApplyContext, LookupContext, MatchPositions, Reach, Search};
 pub use skipping_iterator::{Found, LookupOptions, SkippingIterator};

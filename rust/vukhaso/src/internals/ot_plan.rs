@@ -10,12 +10,11 @@ mod kept_plans;
 mod lookup_options;
 mod planning;
 mod shape_plan;
-mod watch;
 
+pub use crate::steps::{Step, Unwatched, Watch};
 pub use form_places::FormPlaces;
 pub use glyphs_of_font::FaceGlyphs;
 pub use kept_plans::KeptPlans;
 pub use lookup_options::{budget_of, options_of};
 pub use planning::{TextPlan, plan_of_text};
 pub use shape_plan::{ShapePlan, text_plan};
-pub use watch::{Step, Unwatched, Watch};

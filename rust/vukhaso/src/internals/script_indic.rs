@@ -22,4 +22,3 @@ mod pref;
 mod reordering;
 mod reph;
 pub mod scripts;
-mod sorting;

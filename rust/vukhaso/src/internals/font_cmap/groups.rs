@@ -92,6 +92,24 @@ struct GroupRun {
     last: u32,
 }
 
+impl GroupRun {
+    /// Puts the numbers of the glyphs of codes from one to before another in their places.
+    ///
+    /// # Requires
+    ///
+    /// - `end ≤ 128`
+    #[inline(always)]
+    fn put(&self, glyphs: &mut [u16; FIRST_COUNT], start: usize, end: usize, format: u16) {
+        debug_assert!(end <= 128);
+        for code in start..end {
+            glyphs[code] = match &self.group {
+                Some(group) => number_in_group(format, code as u32, group.start, group.glyph),
+                None => 0,
+            };
+        }
+    }
+}
+
 /// The group of a code and of those behind it.
 #[inline(always)]
 fn group_run(table: &[u8], code: u32) -> GroupRun {
@@ -120,31 +138,8 @@ pub(crate) fn first_groups_glyphs(table: &[u8], format: u16) -> [u16; FIRST_COUN
     while code < FIRST_COUNT {
         let run = group_run(table, code as u32);
         let end = FIRST_COUNT.min((run.last as usize).saturating_add(1));
-        put_glyphs(&mut glyphs, code, end, format, &run);
+        run.put(&mut glyphs, code, end, format);
         code = end;
     }
     glyphs
-}
-
-/// Puts the numbers of the glyphs of codes that have one group, from one code to before another, in
-/// their places.
-///
-/// # Requires
-///
-/// - `end ≤ 128`
-#[inline(always)]
-fn put_glyphs(
-    glyphs: &mut [u16; FIRST_COUNT],
-    start: usize,
-    end: usize,
-    format: u16,
-    run: &GroupRun,
-) {
-    debug_assert!(end <= 128);
-    for code in start..end {
-        glyphs[code] = match &run.group {
-            Some(group) => number_in_group(format, code as u32, group.start, group.glyph),
-            None => 0,
-        };
-    }
 }

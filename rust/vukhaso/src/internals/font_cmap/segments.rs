@@ -74,6 +74,30 @@ struct SegmentRun {
     last: u32,
 }
 
+impl SegmentRun {
+    /// Puts the numbers of the glyphs of codes from one to before another in their places.
+    ///
+    /// # Requires
+    ///
+    /// - `end ≤ 128`
+    #[inline(always)]
+    fn put(
+        &self,
+        glyphs: &mut [u16; FIRST_COUNT],
+        start: usize,
+        end: usize,
+        segments: &Segments<'_>,
+    ) {
+        debug_assert!(end <= 128);
+        for code in start..end {
+            glyphs[code] = match &self.segment {
+                Some(segment) => number_in_segment(segments, code as u32, segment),
+                None => 0,
+            };
+        }
+    }
+}
+
 /// The segment of a code and of those behind it.
 #[inline(always)]
 fn segment_run(segments: &Segments<'_>, code: u32) -> SegmentRun {
@@ -102,31 +126,8 @@ pub(crate) fn first_segments_glyphs(segments: &Segments<'_>) -> [u16; FIRST_COUN
     while code < FIRST_COUNT {
         let run = segment_run(segments, code as u32);
         let end = FIRST_COUNT.min((run.last as usize).saturating_add(1));
-        put_glyphs(&mut glyphs, code, end, segments, &run);
+        run.put(&mut glyphs, code, end, segments);
         code = end;
     }
     glyphs
-}
-
-/// Puts the numbers of the glyphs of codes that have one segment, from one code to before another, in
-/// their places.
-///
-/// # Requires
-///
-/// - `end ≤ 128`
-#[inline(always)]
-fn put_glyphs(
-    glyphs: &mut [u16; FIRST_COUNT],
-    start: usize,
-    end: usize,
-    segments: &Segments<'_>,
-    run: &SegmentRun,
-) {
-    debug_assert!(end <= 128);
-    for code in start..end {
-        glyphs[code] = match &run.segment {
-            Some(segment) => number_in_segment(segments, code as u32, segment),
-            None => 0,
-        };
-    }
 }

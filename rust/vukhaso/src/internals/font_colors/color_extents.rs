@@ -9,10 +9,10 @@ use crate::font_colors::extents::Extents;
 use crate::font_colors::outlines::DrawnOutlines;
 use crate::font_colors::painter::{Canvas, DEEPEST_PAINT, Painter, Visits};
 use crate::font_colors::transform::Transform;
-use crate::font_gvar::glyf::NO_BOX;
 use crate::glyph::GlyphExtents;
 use crate::memory::AllocError;
 use crate::numbers::saturating_f32_to_i32;
+use crate::outline_tables::glyf::NO_BOX;
 
 /// A canvas of which nothing is cut off.
 const CANVAS: Canvas = Canvas {

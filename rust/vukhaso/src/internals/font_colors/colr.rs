@@ -3,7 +3,6 @@
 //! Boxes that glyphs drawn in colours are clipped to (OpenType specification, "COLR - Color Table", "ClipList table").
 
 use crate::common::GlyphId;
-use crate::font_gvar::glyf::NO_BOX;
 use crate::font_tables::bytes::{i16_at, table_at_32, tail, u8_at, u16_at, u24_at, u32_at};
 use crate::font_tables::rows::{Keys16, first_row, rises, rows_within};
 use crate::font_variations::VariationStore;
@@ -11,6 +10,7 @@ use crate::font_variations::index_map::{DeltaSetIndex, IndexMap};
 use crate::font_variations::rounding::{float, rounded};
 use crate::glyph::GlyphExtents;
 use crate::numbers::saturating_f32_to_i32;
+use crate::outline_tables::glyf::NO_BOX;
 
 /// The table of a font with glyphs that are drawn in colours, as far as it says boxes of them.
 ///

@@ -9,7 +9,6 @@ use crate::font_face::color::ColorTables;
 use crate::font_face::directory::Directory;
 use crate::font_face::layout::Layout;
 use crate::font_face::variations::FaceVariations;
-use crate::font_gvar::GlyfTables;
 use crate::font_outlines::Outlines;
 use crate::font_tables::bytes::u16_at;
 use crate::font_tables::directory::Tables;
@@ -23,6 +22,7 @@ use crate::font_tables::vertical_origins::VerticalOrigins;
 use crate::memory::{AllocError, Shared};
 use crate::ot_lookups::LookupList;
 use crate::ot_lookups::lookup_list::{POSITIONING_EXTENSION, SUBSTITUTION_EXTENSION};
+use crate::outline_tables::GlyfTables;
 
 /// The lookups of a font.
 #[derive(Debug)]

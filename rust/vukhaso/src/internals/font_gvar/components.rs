@@ -4,11 +4,11 @@
 
 use crate::common::GlyphId;
 use crate::font_gvar::flags::has_flag;
-use crate::font_gvar::glyf::HEADER_SIZE;
 use crate::font_gvar::points::Point;
 use crate::font_tables::bytes::{i16_at, tail, u8_at, u16_at, u24_at};
 use crate::font_variations::rounding::float;
 use crate::numbers::ToSigned;
+use crate::outline_tables::glyf::HEADER_SIZE;
 
 /// The components of an outline, which are read one after the other.
 #[derive(Clone, Copy, Debug)]

@@ -3,7 +3,6 @@
 //! The bounds of glyphs at a place in the variations of a font.
 
 use crate::common::GlyphId;
-use crate::font_gvar::glyf::NO_BOX;
 use crate::font_gvar::outlines::last_phantoms;
 use crate::font_gvar::phantoms::{DEEPEST_GLYPH, MOST_GLYPHS, Phantoms};
 use crate::font_gvar::points::{OutlinePoint, Point};
@@ -11,6 +10,7 @@ use crate::font_gvar::sources::{GlyphSources, PointSource};
 use crate::font_variations::rounding::{float, greater, lesser, rounded};
 use crate::glyph::GlyphExtents;
 use crate::memory::{AllocError, Vec};
+use crate::outline_tables::glyf::NO_BOX;
 
 /// An outline at a place in the variations of a font.
 #[derive(Clone, Copy, Debug)]

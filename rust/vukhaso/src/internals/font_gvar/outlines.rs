@@ -4,12 +4,12 @@
 
 use crate::common::GlyphId;
 use crate::font_gvar::components::{Component, Components};
-use crate::font_gvar::glyf::{OutlineKind, outline_kind};
 use crate::font_gvar::phantoms::Phantoms;
 use crate::font_gvar::points::{OutlinePoint, Point};
 use crate::font_gvar::simple_outlines::push_points;
 use crate::font_gvar::sources::PointSource;
 use crate::memory::{AllocError, Vec};
+use crate::outline_tables::glyf::{OutlineKind, outline_kind};
 
 /// How many points a glyph may have, as HarfBuzz allows.
 const MOST_POINTS: usize = 200_000;

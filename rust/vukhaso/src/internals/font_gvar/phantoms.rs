@@ -5,13 +5,13 @@
 
 use crate::common::GlyphId;
 use crate::font_gvar::components::Components;
-use crate::font_gvar::glyf::{OutlineKind, outline_kind};
 use crate::font_gvar::points::Point;
 use crate::font_gvar::simple_outlines::point_count;
 use crate::font_gvar::sources::GlyphSources;
 use crate::font_gvar::tuple_deltas::TupleDeltas;
 use crate::font_gvar::tuple_scalar::tuple_scalar;
 use crate::font_gvar::tuples::{Tuple, Tuples};
+use crate::outline_tables::glyf::{OutlineKind, outline_kind};
 
 /// The phantom points of a glyph.
 #[derive(Clone, Copy, Debug, Default)]

@@ -3,11 +3,11 @@
 //! The points of outlines that are not put together of others (OpenType specification, "glyf - Glyph Data", "Simple Glyph
 //! Description").
 
-use crate::font_gvar::glyf::HEADER_SIZE;
 use crate::font_gvar::points::{OutlinePoint, Point};
 use crate::font_tables::bytes::{i16_at, tail, u8_at, u16_at};
 use crate::font_variations::rounding::float;
 use crate::memory::{AllocError, Vec};
+use crate::outline_tables::glyf::HEADER_SIZE;
 
 /// How many points an outline of so many contours has; `None` where the outline is cut short.
 pub(crate) fn point_count(outline: &[u8], contours: u16) -> Option<u32> {

@@ -3,13 +3,13 @@
 //! The tables that the outlines of glyphs and their variations are in.
 
 use crate::common::GlyphId;
-use crate::font_gvar::glyf::{GlyfTables, HEADER_SIZE, outline};
 use crate::font_gvar::gvar::GlyphVariations;
 use crate::font_gvar::phantoms::Phantoms;
 use crate::font_gvar::points::Point;
 use crate::font_tables::bytes::i16_at;
 use crate::font_tables::metrics::Metrics;
 use crate::font_variations::rounding::float;
+use crate::outline_tables::glyf::{GlyfTables, HEADER_SIZE, outline};
 
 /// The tables of a font's outlines, with those of advances and side bearings.
 #[derive(Clone, Copy, Debug)]

@@ -31,11 +31,7 @@ impl<'a> TupleDeltas<'a> {
             (tuple.shared_points, data)
         };
         let is_for_all = points.left() == 0;
-        let (count, skipped) = if is_for_all {
-            (point_count, first)
-        } else {
-            (u32::from(points.left()), points.skip_below(first))
-        };
+        let (count, skipped) = counts_of(&mut points, is_for_all, point_count, first);
         let mut x = PackedDeltas::new(deltas, count);
         x.skip(skipped)?;
         let mut y = PackedDeltas::new(x.behind()?, count);
@@ -54,13 +50,7 @@ impl<'a> TupleDeltas<'a> {
     pub(crate) fn next(&mut self) -> Option<(u32, Point)> {
         let x = self.x.next()?;
         let y = self.y.next()?;
-        let point = if self.is_for_all {
-            let point = self.next;
-            self.next = point.saturating_add(1);
-            point
-        } else {
-            self.points.next()?
-        };
+        let point = self.next_point()?;
         let delta = Point {
             x: float(x),
             y: float(y),
@@ -68,8 +58,34 @@ impl<'a> TupleDeltas<'a> {
         Some((point, delta))
     }
 
+    /// The number of the next point.
+    fn next_point(&mut self) -> Option<u32> {
+        if self.is_for_all {
+            let point = self.next;
+            self.next = point.saturating_add(1);
+            Some(point)
+        } else {
+            self.points.next()
+        }
+    }
+
     /// How many points are left.
     pub(crate) fn left(&self) -> u32 {
         self.x.left()
+    }
+}
+
+/// How many deltas there are on each axis, and how many of them are passed over, of a glyph with so
+/// many points, up to the one with a number.
+fn counts_of(
+    points: &mut PackedPoints<'_>,
+    is_for_all: bool,
+    point_count: u32,
+    first: u32,
+) -> (u32, u32) {
+    if is_for_all {
+        (point_count, first)
+    } else {
+        (u32::from(points.left()), points.skip_below(first))
     }
 }

@@ -6,14 +6,14 @@
 use crate::common::GlyphId;
 use crate::font_outlines::charset::{predefined_charset, string_number, string_of};
 use crate::font_outlines::charstring::{Accented, Drawing, Subroutines, draw_charstring};
-use crate::font_outlines::dict::Dict;
 use crate::font_outlines::extents::path_box;
-use crate::font_outlines::font_dicts::font_dict_of;
-use crate::font_outlines::index::{index_count, index_item, index_size};
 use crate::font_outlines::path::Bounds;
 use crate::font_outlines::standard_encoding::{encoded_string, glyph_of_string};
 use crate::font_tables::bytes::{part, tail, u8_at};
 use crate::glyph::GlyphExtents;
+use crate::outline_tables::Dict;
+use crate::outline_tables::font_dicts::font_dict_of;
+use crate::outline_tables::index::{index_count, index_item, index_size};
 
 /// The table of a font with CFF outlines.
 ///
@@ -52,7 +52,12 @@ impl<'a> CffTable<'a> {
     ///
     /// ```text
     /// ensures glyphs { IfSome result (λ cff. cff.glyph_count ≡ glyph_count) }
+    /// ensures table { IfSome result (λ cff. cff.table.now ≡ table.now) }
+    /// ensures top { IfSome result (λ cff. top_dict table.now ≡ Some cff.top) }
+    /// ensures keyed { IfSome result (λ cff. cff.is_cid ≡ cff.top.is_cid) }
     /// ensures strings { IfSome result (λ cff. font_strings table.now ≡ Some cff.strings.now) }
+    /// ensures subroutines { IfSome result (λ cff. behind cff.strings.now ≡ Some cff.global_subroutines.now) }
+    /// ensures charstrings { IfSome result (λ cff. at_offset table.now cff.top.char_strings ≡ Some cff.char_strings.now) }
     /// ```
     #[inline]
     pub fn parse(table: &'a [u8], glyph_count: u16) -> Option<Self> {

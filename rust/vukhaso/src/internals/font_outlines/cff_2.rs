@@ -5,14 +5,14 @@
 use crate::common::GlyphId;
 use crate::font_outlines::cff::at_offset;
 use crate::font_outlines::charstring_2::{Setting2, draw_charstring_2};
-use crate::font_outlines::dict::Dict;
 use crate::font_outlines::extents::path_box;
-use crate::font_outlines::font_dicts::font_dict_of;
-use crate::font_outlines::index_2::{count_2, item_2};
 use crate::font_outlines::path::Bounds;
 use crate::font_tables::bytes::{part, tail, u8_at, u16_at};
 use crate::font_variations::VariationStore;
 use crate::glyph::GlyphExtents;
+use crate::outline_tables::Dict;
+use crate::outline_tables::font_dicts::font_dict_of;
+use crate::outline_tables::index_2::{count_2, item_2};
 
 /// The table of a font with CFF2 outlines.
 ///
@@ -44,7 +44,12 @@ impl<'a> Cff2Table<'a> {
     /// # Proved
     ///
     /// ```text
-    /// ensures { IfSome result (λ cff. cff.glyph_count ≡ glyph_count) }
+    /// ensures glyphs { IfSome result (λ cff. cff.glyph_count ≡ glyph_count) }
+    /// ensures table { IfSome result (λ cff. cff.table.now ≡ table.now) }
+    /// ensures top { IfSome result (λ cff. top_dict_2 table.now ≡ Some cff.top) }
+    /// ensures charstrings { IfSome result (λ cff. at_offset table.now cff.top.char_strings ≡ Some cff.char_strings.now) }
+    /// ensures subroutines { IfSome result (λ cff. global_subroutines_2 table.now ≡ Some cff.global_subroutines.now) }
+    /// ensures store { IfSome result (λ cff. cff.store.table.now ≡ store_2 table.now cff.top.variation_store) }
     /// ```
     pub fn parse(table: &'a [u8], glyph_count: u16) -> Option<Self> {
         if u8_at(table, 0)? != 2 {

@@ -3,9 +3,9 @@
 //! The names of the glyphs of a CFF font (The Compact Font Format Specification, "Charsets" and "String INDEX").
 
 use crate::common::GlyphId;
-use crate::font_outlines::index::index_item;
 use crate::font_outlines::standard_strings::standard_string;
 use crate::font_tables::bytes::{u8_at, u16_at};
+use crate::outline_tables::index::index_item;
 
 /// How many standard strings there are: the strings of a font follow them.
 const STANDARD_STRINGS: u32 = 391;

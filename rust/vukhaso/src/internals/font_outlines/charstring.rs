@@ -3,11 +3,11 @@
 //! The path of a glyph that a charstring draws (The Type 2 Charstring Format).
 
 use crate::font_outlines::curves::{draw_by, flex, flex_1, horizontal_flex, horizontal_flex_1};
-use crate::font_outlines::operand::{number, number_length};
 use crate::font_outlines::path::{Path, Point};
-use crate::font_outlines::subroutines::subroutine;
 use crate::font_tables::bytes::{tail, u8_at, u32_at};
 use crate::numbers::ToSigned;
+use crate::outline_tables::operand::{number, number_length};
+use crate::outline_tables::subroutines::subroutine;
 
 /// How many numbers an operator may have before it, as HarfBuzz allows.
 const MOST_NUMBERS: usize = 513;

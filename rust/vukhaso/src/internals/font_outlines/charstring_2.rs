@@ -3,13 +3,13 @@
 //! The path of a glyph that a charstring of the table `CFF2` draws (OpenType specification, "CFF2 CharString Format").
 
 use crate::font_outlines::charstring::{DEEPEST_CALL, MOST_STEPS, State, UNIT};
-use crate::font_outlines::index_2::subroutine_2;
 use crate::font_outlines::path::Path;
 use crate::font_tables::bytes::{tail, u8_at};
 use crate::font_variations::VariationStore;
 #[cfg(not(any(test, feature = "std")))]
 use crate::numbers::Round;
 use crate::numbers::{nearest_i64_to_f64, saturating_f64_to_i32};
+use crate::outline_tables::index_2::subroutine_2;
 
 /// What a charstring of `CFF2` is run with.
 #[derive(Clone, Copy, Debug)]

@@ -3,9 +3,9 @@
 //! The outlines of a font, of either kind.
 
 use crate::common::GlyphId;
-use crate::font_gvar::GlyfTables;
 use crate::font_outlines::cff::CffTable;
 use crate::glyph::GlyphExtents;
+use crate::outline_tables::GlyfTables;
 
 /// The outlines of a font: those of `glyf`, and of `CFF ` for the glyphs that `glyf` does not have.
 ///

@@ -5,13 +5,10 @@
 use crate::buffer::UnicodeBuffer;
 use crate::lines::text::{emptied, empty_text};
 use crate::options::options::LineOptions;
-use crate::ot_plan::KeptPlans;
 
 /// What is kept of a line for the next one of the same font.
 #[derive(Debug)]
 pub struct KeptLine {
-    /// The plans of its text and of those before.
-    pub plans: KeptPlans,
     /// Its buffer, emptied.
     pub text: Option<UnicodeBuffer>,
     /// Whether the shaping of a line was given up, and nothing was said of it yet.
@@ -24,14 +21,12 @@ impl KeptLine {
     /// # Proved
     ///
     /// ```text
-    /// ensures plans { result.plans ≡ [] }
     /// ensures text { result.text ≡ None }
     /// ensures has_given_up { result.has_given_up ≡ false }
     /// ```
     #[inline]
     pub fn new() -> Self {
         KeptLine {
-            plans: KeptPlans::new(),
             text: None,
             has_given_up: false,
         }
@@ -43,8 +38,7 @@ impl KeptLine {
     /// # Proved
     ///
     /// ```text
-    /// ensures invisible { result.invisible ≡ options.now.invisible_glyph }
-    /// ensures plans { self.new.plans ≡ self.old.plans }
+    /// ensures { result.invisible ≡ options.now.invisible_glyph }
     /// ```
     #[inline]
     pub fn take_text(&mut self, options: &LineOptions<'_>) -> UnicodeBuffer {

@@ -13,7 +13,7 @@ use crate::lines::text::empty_text;
 use crate::memory::{AllocError, String, Vec};
 use crate::options::options::LineOptions;
 use crate::options::output::Output;
-use crate::ot_plan::{Step, Watch};
+use crate::steps::{Step, Watch};
 
 /// What the buffer is after a step.
 #[derive(Debug)]
@@ -114,21 +114,10 @@ fn write_steps<N: LineNames>(
     let before = head(shown, number, b"", b"")?;
     for told in trace.steps.iter() {
         text.extend_from_slice(before.as_slice())?;
-        write_step(printer, names, told, text)?;
+        write_words(told.step, text)?;
+        write_items(printer, names, told, text)?;
+        text.push(b'\n')?;
     }
-    Ok(())
-}
-
-/// Writes a step, and the items that it left.
-fn write_step<N: LineNames>(
-    printer: &StepPrinter<'_>,
-    names: &mut N,
-    told: &Told,
-    text: &mut Vec<u8>,
-) -> Result<(), AllocError> {
-    write_words(told.step, text)?;
-    write_items(printer, names, told, text)?;
-    text.push(b'\n')?;
     Ok(())
 }
 

@@ -8,28 +8,16 @@ use crate::options::options::OptionsError;
 /// Refuses a reader of the font's file, unless it is the one that there is.
 pub(crate) fn refuse_loader<'a>(name: Option<&'a str>) -> Result<(), OptionsError<'a>> {
     match name {
-        Some(name) => {
-            if is_open_type(name) {
-                Ok(())
-            } else {
-                Err(OptionsError::FaceLoader(name))
-            }
-        }
-        None => Ok(()),
+        Some(name) if !is_open_type(name) => Err(OptionsError::FaceLoader(name)),
+        _ => Ok(()),
     }
 }
 
 /// Refuses functions of a font, unless they are those that there are.
 pub(crate) fn refuse_functions<'a>(name: Option<&'a str>) -> Result<(), OptionsError<'a>> {
     match name {
-        Some(name) => {
-            if is_open_type(name) {
-                Ok(())
-            } else {
-                Err(OptionsError::FontFuncs(name))
-            }
-        }
-        None => Ok(()),
+        Some(name) if !is_open_type(name) => Err(OptionsError::FontFuncs(name)),
+        _ => Ok(()),
     }
 }
 

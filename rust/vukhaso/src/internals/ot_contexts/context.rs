@@ -1,7 +1,7 @@
 // Written by tools/plain_rust from crates/ot_contexts. Do not edit.
 
-//! Contexts: rules of glyphs at the cursor, before them and after them, as the kinds 5 and 6 of `GSUB` have them, and the
-//! kinds 7 and 8 of `GPOS` (OpenType specification, "OpenType Layout Common Table Formats", "Sequence Context").
+//! Contexts: rules of glyphs at the cursor, before them and after them, as `GSUB` and `GPOS` have them (OpenType specification,
+//! "OpenType Layout Common Table Formats", "Sequence Context").
 
 use crate::font_tables::bytes::{table_at_16, u16_at};
 use crate::glyph::hb_glyph_info_t;
@@ -12,6 +12,7 @@ use crate::ot_layout::search::{ApplyContext, Search};
 use crate::ot_layout::skipping_iterator::Skip;
 use crate::ot_lookups::lookup_list::LookupList;
 use crate::ot_lookups::subtable::{NextAsked, Subtable};
+use crate::ot_lookups::subtable_kind::ContextFormat;
 
 /// How deep lookups may apply others (HarfBuzz, `HB_MAX_NESTING_LEVEL`).
 pub const MAX_NESTING_LEVEL: u32 = 64;
@@ -61,8 +62,8 @@ impl<'a> Fit<'a> {
 }
 
 /// The rule of a subtable that is taken at the cursor: the first of its set that fits. The subtable is
-/// one of the list, and a context, chained or not; its coverage has the glyph at the cursor, at this
-/// index.
+/// one of the list; its coverage has the glyph at the cursor, at this index. One that is no context has
+/// no rule.
 ///
 /// # Requires
 ///
@@ -74,34 +75,30 @@ impl<'a> Fit<'a> {
 /// ensures spent { IsNotMore search.old.budget search.new.budget }
 /// ensures fits { IfSome result (IsFitWithin (length ctx.now.out.now) (length ctx.now.input.now)) }
 /// ensures rule { IfSome result
-///     (IsFitBy ctx.now (context_rule list.now.coverages.items subtable.now index is_chained ctx.now)
-///     search.new.places.items) }
-/// ensures exact { is_chained ≡ is_chained_type subtable.now.lookup_type
-///     → IsNextOf list.now.coverages.items subtable.now → 0 < search.new.budget.steps
-///     → is_some result ≡ is_some (context_rule list.now.coverages.items subtable.now index is_chained ctx.now) }
+///     (IsFitBy ctx.now (context_rule list.now.coverages.items subtable.now index ctx.now) search.new.places.items) }
+/// ensures exact { IsNextOf list.now.coverages.items subtable.now → 0 < search.new.budget.steps
+///     → is_some result ≡ is_some (context_rule list.now.coverages.items subtable.now index ctx.now) }
 /// ```
-#[inline]
 pub fn fitting_rule<'a>(
     list: &'a LookupList<'a>,
     subtable: &Subtable<'a>,
     index: u32,
-    is_chained: bool,
     ctx: &ApplyContext,
     search: &mut Search,
 ) -> Option<Fit<'a>> {
     let table = subtable.table;
-    let (set, match_functions) = match subtable.format {
-        1 => (
+    let is_chained = subtable.kind.is_chained();
+    let (set, match_functions) = match subtable.kind.as_context()? {
+        ContextFormat::Glyphs => (
             set_at(table, 4, index)?,
             same_match_function(MatchFunction::Glyphs),
         ),
-        2 => {
+        ContextFormat::Classes => {
             let class = class_of(&subtable.classes, ctx.input[0].glyph_id);
             let set = set_at(table, if is_chained { 10 } else { 6 }, u32::from(class))?;
             (set, class_meanings(subtable))
         }
-        3 => return covered_fit(list, subtable, is_chained, ctx, search),
-        _ => return None,
+        ContextFormat::Coverages => return covered_fit(list, subtable, ctx, search),
     };
     let rules = RuleSet {
         table: set,
@@ -121,7 +118,6 @@ pub fn fitting_rule<'a>(
 fn covered_fit<'a>(
     list: &'a LookupList<'a>,
     subtable: &Subtable<'a>,
-    is_chained: bool,
     ctx: &ApplyContext,
     search: &mut Search,
 ) -> Option<Fit<'a>> {
@@ -134,7 +130,7 @@ fn covered_fit<'a>(
     }
     let coverages = list.coverages_from(subtable, 0);
     fit(
-        &coverage_rule(subtable.table, coverages, is_chained)?,
+        &coverage_rule(subtable.table, coverages, subtable.kind.is_chained())?,
         ctx,
         search,
     )

@@ -9,9 +9,6 @@ use crate::ot_layout::search::{ApplyContext, Reach, Search};
 use crate::ot_layout::skipping_iterator::SkippingIterator;
 use crate::ot_lookups::lookup_list::LookupList;
 
-/// The kind of chained contexts.
-pub(crate) const CHAINED_CONTEXT: u16 = 8;
-
 /// The rule that fits at the glyph; how far rules that do not fit have looked stands in the search. The
 /// places of the rule's glyphs are counted from the glyph. No lookup is applied, so that as many may be
 /// as before.
@@ -20,7 +17,6 @@ pub(crate) const CHAINED_CONTEXT: u16 = 8;
 ///
 /// - `within: turn.now.place < length glyphs.now`
 /// - `next: IsNextOf list.now.coverages.items turn.now.subtable.now`
-/// - `is_context: is_simple turn.now.subtable.now ≡ false`
 pub(crate) fn fit_at<'a>(
     glyphs: &[hb_glyph_info_t],
     list: &'a LookupList<'a>,
@@ -38,8 +34,7 @@ pub(crate) fn fit_at<'a>(
         syllable: 0,
         is_level: true,
     };
-    let is_chained = turn.subtable.lookup_type == CHAINED_CONTEXT;
-    let found = fitting_rule(list, turn.subtable, turn.index, is_chained, &ctx, search);
+    let found = fitting_rule(list, turn.subtable, turn.index, &ctx, search);
     search.budget.nested = nested;
     found
 }

@@ -15,11 +15,12 @@ use crate::ot_gpos::pairs::{place_pair, place_single};
 use crate::ot_gpos::turn::{Setting, Turn};
 use crate::ot_gpos_tables::contour_points::ContourPoints;
 use crate::ot_layout::budget::{PASSED_A_STEP, SUBTABLE_STEPS};
-use crate::ot_layout::search::{MatchPositions, Search};
-use crate::ot_layout::skipping_iterator::{LookupOptions, SkippingIterator};
+use crate::ot_layout::search::{LookupContext, MatchPositions, Search};
+use crate::ot_layout::skipping_iterator::LookupOptions;
 use crate::ot_lookups::lookup_list::Lookup;
 use crate::ot_lookups::lookup_props::covered_index;
 use crate::ot_lookups::subtable::Subtable;
+use crate::ot_lookups::subtable_kind::SubtableKind;
 use core::mem;
 
 /// How deep lookups may apply others (HarfBuzz, `HB_MAX_NESTING_LEVEL`).
@@ -27,11 +28,11 @@ const MAX_NESTING_LEVEL: u32 = 64;
 
 /// A lookup at a glyph.
 #[derive(Debug)]
-struct Task<'a, P> {
+struct Task<'a, 'l, P> {
     /// The font's lookups and its size.
     setting: &'a Setting<'a, P>,
-    /// The lookup.
-    lookup: &'a Lookup<'a>,
+    /// The lookup, and its iterators.
+    applied: &'l LookupContext<'a>,
     /// How it is applied.
     options: &'a LookupOptions,
     /// The place of the glyph.
@@ -94,6 +95,7 @@ fn place_all<'a, P: ContourPoints>(
         return;
     };
     search.budget.pay_for(1 + buffer.len() / PASSED_A_STEP);
+    let applied = LookupContext::new(lookup, options, true);
     let mut last = LastBase::none();
     let mut next = 0;
     for _turn in 0..buffer.len() {
@@ -103,7 +105,7 @@ fn place_all<'a, P: ContourPoints>(
         }
         let task = Task {
             setting,
-            lookup,
+            applied: &applied,
             options,
             place,
             depth: MAX_NESTING_LEVEL,
@@ -124,9 +126,9 @@ fn next_place(glyphs: &[hb_glyph_info_t], lookup: &Lookup, mask: u32, from: usiz
 /// # Requires
 ///
 /// - `placed: HasPositions buffer.old`
-fn place_by_lookup<'a, P: ContourPoints>(
+fn place_by_lookup<'a, 'l, P: ContourPoints>(
     buffer: &mut hb_buffer_t,
-    task: &Task<'a, P>,
+    task: &Task<'a, 'l, P>,
     search: &mut Search,
     last: &mut LastBase,
 ) -> Option<usize> {
@@ -135,7 +137,7 @@ fn place_by_lookup<'a, P: ContourPoints>(
         return None;
     }
     let glyph = buffer.info()[task.place].glyph_id;
-    let subtables = task.setting.list.subtables_of(task.lookup);
+    let subtables = task.setting.list.subtables_of(task.applied.lookup);
     search.budget.pay_for(subtables.len() / PASSED_A_STEP);
     for subtable in subtables {
         let next = try_subtable(buffer, task, subtable, glyph, search, last);
@@ -154,9 +156,9 @@ fn place_by_lookup<'a, P: ContourPoints>(
 /// - `placed: HasPositions buffer.old`
 /// - `within: task.now.place < length buffer.old.input`
 /// - `next: IsNextOf task.now.setting.now.list.now.coverages.items subtable.now`
-fn try_subtable<'a, P: ContourPoints>(
+fn try_subtable<'a, 'l, P: ContourPoints>(
     buffer: &mut hb_buffer_t,
-    task: &Task<'a, P>,
+    task: &Task<'a, 'l, P>,
     subtable: &'a Subtable<'a>,
     glyph: u32,
     search: &mut Search,
@@ -171,9 +173,9 @@ fn try_subtable<'a, P: ContourPoints>(
     }
     let index = index_in(subtable, glyph)?;
     let turn = Turn {
-        lookup: task.lookup,
+        lookup: task.applied.lookup,
         subtable,
-        iterator: SkippingIterator::over_input(task.lookup.lookup_props, task.options, true),
+        iterator: task.applied.iterator,
         instance: &task.setting.instance,
         place: task.place,
         index,
@@ -197,39 +199,39 @@ fn index_in(subtable: &Subtable, glyph: u32) -> Option<u32> {
 /// - `place: turn.now.place ≡ task.now.place`
 /// - `next: IsNextOf task.now.setting.now.list.now.coverages.items turn.now.subtable.now`
 #[inline(never)]
-fn place_by_subtable<'a, P: ContourPoints>(
+fn place_by_subtable<'a, 'l, P: ContourPoints>(
     buffer: &mut hb_buffer_t,
-    task: &Task<'a, P>,
+    task: &Task<'a, 'l, P>,
     turn: &Turn<'a>,
     search: &mut Search,
     last: &mut LastBase,
 ) -> Option<usize> {
     debug_assert!(!buffer.have_output() && buffer.have_positions());
-    match turn.subtable.lookup_type {
-        7 | 8 => place_by_context(buffer, task, turn, search, last),
-        kind => place_by_simple(buffer, kind, turn, last, task.setting.points),
+    if turn.subtable.kind.as_context().is_some() {
+        place_by_context(buffer, task, turn, search, last)
+    } else {
+        place_by_simple(buffer, turn, last, task.setting.points)
     }
 }
 
-/// Positions the glyph by a subtable of this kind, which is no context.
+/// Positions the glyph by a subtable that is no context.
 ///
 /// # Requires
 ///
 /// - `placed: HasPositions buffer.old`
 fn place_by_simple<P: ContourPoints>(
     buffer: &mut hb_buffer_t,
-    kind: u16,
     turn: &Turn,
     last: &mut LastBase,
     points: &P,
 ) -> Option<usize> {
     debug_assert!(!buffer.have_output() && buffer.have_positions());
-    match kind {
-        1 => place_single(buffer, turn),
-        2 => place_pair(buffer, turn),
-        3 => place_cursive(buffer, turn, points),
+    match turn.subtable.kind {
+        SubtableKind::SingleAdjustment => place_single(buffer, turn),
+        SubtableKind::PairAdjustment(_) => place_pair(buffer, turn),
+        SubtableKind::CursiveAttachment => place_cursive(buffer, turn, points),
         _ => {
-            let found = attachment_at(buffer.info(), kind, turn, last, points);
+            let found = attachment_at(buffer.info(), turn, last, points);
             attach_mark(buffer, turn.place, &found)
         }
     }
@@ -243,17 +245,16 @@ fn place_by_simple<P: ContourPoints>(
 /// - `within: context.now.place < length buffer.old.input`
 /// - `place: context.now.place ≡ task.now.place`
 /// - `next: IsNextOf task.now.setting.now.list.now.coverages.items context.now.subtable.now`
-/// - `is_context: is_simple context.now.subtable.now ≡ false`
-fn place_by_context<'a, P: ContourPoints>(
+fn place_by_context<'a, 'l, P: ContourPoints>(
     buffer: &mut hb_buffer_t,
-    task: &Task<'a, P>,
+    task: &Task<'a, 'l, P>,
     context: &Turn<'a>,
     search: &mut Search,
     last: &mut LastBase,
 ) -> Option<usize> {
     debug_assert!(!buffer.have_output() && buffer.have_positions());
-    let around = SkippingIterator::over_context(task.lookup.lookup_props, task.options, true);
-    let fit = fit_at(buffer.info(), task.setting.list, context, &around, search);
+    let around = &task.applied.context;
+    let fit = fit_at(buffer.info(), task.setting.list, context, around, search);
     let reached = context.place.saturating_add(search.reach.to);
     mark_concat(buffer, search.reach.from, reached);
     let fit = fit?;
@@ -271,9 +272,9 @@ fn place_by_context<'a, P: ContourPoints>(
 /// # Requires
 ///
 /// - `placed: HasPositions buffer.old`
-fn apply_records<'a, P: ContourPoints>(
+fn apply_records<'a, 'l, P: ContourPoints>(
     buffer: &mut hb_buffer_t,
-    task: &Task<'a, P>,
+    task: &Task<'a, 'l, P>,
     fit: &Fit<'a>,
     places: &MatchPositions,
     search: &mut Search,
@@ -281,39 +282,41 @@ fn apply_records<'a, P: ContourPoints>(
 ) {
     debug_assert!(!buffer.have_output() && buffer.have_positions());
     for index in 0..usize::from(fit.record_count) {
-        if let Some(nested) = nested_task(task, fit, places, index) {
+        if let Some((lookup, place)) = nested_lookup(task, fit, places, index) {
             if task.depth == 0 || !search.budget.nest() {
                 fail(buffer);
                 return;
             }
+            let applied = LookupContext::new(lookup, task.options, true);
+            let nested = Task {
+                setting: task.setting,
+                applied: &applied,
+                options: task.options,
+                place,
+                depth: task.depth - 1,
+            };
             let _next = place_by_lookup(buffer, &nested, search, last);
         }
     }
 }
 
-/// The lookup of a record, at the glyph that the record names; `None` where there is no such lookup or
-/// glyph.
+/// The lookup of a record, and the place of the glyph that the record names; `None` where there is no
+/// such lookup or glyph.
 ///
 /// # Requires
 ///
 /// - `index < 65536`
-fn nested_task<'a, P>(
-    task: &Task<'a, P>,
+fn nested_lookup<'a, 'l, P>(
+    task: &Task<'a, 'l, P>,
     fit: &Fit,
     places: &MatchPositions,
     index: usize,
-) -> Option<Task<'a, P>> {
+) -> Option<(&'a Lookup<'a>, usize)> {
     debug_assert!(index < 65536);
     let record = fit.record(index)?;
     let at = *places.as_slice().get(record.sequence_index)?;
     let lookup = task.setting.list.lookup(record.lookup)?;
-    Some(Task {
-        setting: task.setting,
-        lookup,
-        options: task.options,
-        place: task.place.saturating_add(at),
-        depth: task.depth.saturating_sub(1),
-    })
+    Some((lookup, task.place.saturating_add(at)))
 }
 
 /// Says that shaping was given up where the budget is spent.

@@ -12,6 +12,7 @@ use crate::ot_gpos_tables::contour_points::ContourPoints;
 use crate::ot_layout::matcher::Matcher;
 use crate::ot_layout::skipping_iterator::{Found, Skip, SkippingIterator};
 use crate::ot_lookups::lookup_props::{LookupProps, covered_index};
+use crate::ot_lookups::subtable_kind::SubtableKind;
 
 /// The bits of a lookup's flag that pass over classes of glyphs.
 const IGNORED_CLASSES: u16 = 0x000E;
@@ -38,19 +39,18 @@ impl LastBase {
     }
 }
 
-/// Where a subtable of this kind attaches its mark: to the last base before it, to a component of the
-/// last ligature, or to the mark before it.
+/// Where a subtable attaches its mark: to the last base before it, to a component of the last ligature,
+/// or to the mark before it.
 pub(crate) fn attachment_at<P: ContourPoints>(
     glyphs: &[hb_glyph_info_t],
-    kind: u16,
     turn: &Turn,
     last: &mut LastBase,
     points: &P,
 ) -> AttachmentFound {
-    match kind {
-        4 => base_of(glyphs, turn, last, points),
-        5 => ligature_of(glyphs, turn, last, points),
-        6 => mark_of(glyphs, turn, points),
+    match turn.subtable.kind {
+        SubtableKind::MarkToBase => base_of(glyphs, turn, last, points),
+        SubtableKind::MarkToLigature => ligature_of(glyphs, turn, last, points),
+        SubtableKind::MarkToMark => mark_of(glyphs, turn, points),
         _ => AttachmentFound::Nothing,
     }
 }

@@ -14,6 +14,7 @@ use crate::ot_gpos_tables::pairs::{
 use crate::ot_gpos_tables::values::{ValueRecord, advanced};
 use crate::ot_layout::matcher::{Matcher, class_of};
 use crate::ot_layout::skipping_iterator::{Found, SkippingIterator};
+use crate::ot_lookups::subtable_kind::{PairFormat, SubtableKind};
 
 /// A pair that a subtable has records for.
 #[derive(Clone, Copy, Debug)]
@@ -147,15 +148,15 @@ fn kern(buffer: &mut hb_buffer_t, turn: &Turn, second: usize, glyphs: (u32, u32)
 #[inline(always)]
 fn advance_of(turn: &Turn, glyphs: (u32, u32)) -> Option<i16> {
     let (first, second) = glyphs;
-    match turn.subtable.format {
-        1 => {
+    match turn.subtable.kind {
+        SubtableKind::PairAdjustment(PairFormat::Glyphs) => {
             let set = pair_set(turn.subtable.table, turn.index)?;
             if second > 0xFFFF {
                 return None;
             }
             listed_advance(set, second as u16)
         }
-        2 => {
+        SubtableKind::PairAdjustment(PairFormat::Classes) => {
             let first = class_of(&turn.subtable.classes, first);
             classed_advance(
                 turn.subtable.table,
@@ -289,15 +290,15 @@ fn adjust(
 fn values_of(turn: &Turn, glyphs: (u32, u32)) -> Option<PairValues> {
     let (first, second) = glyphs;
     let table = turn.subtable.table;
-    match turn.subtable.format {
-        1 => {
+    match turn.subtable.kind {
+        SubtableKind::PairAdjustment(PairFormat::Glyphs) => {
             let set = pair_set(table, turn.index)?;
             if second > 0xFFFF {
                 return None;
             }
             listed_pair(set, pair_formats(table), second as u16)
         }
-        2 => {
+        SubtableKind::PairAdjustment(PairFormat::Classes) => {
             let first = class_of(&turn.subtable.classes, first);
             classed_pair(
                 table,
@@ -357,7 +358,7 @@ fn has_effect(turn: &Turn, pair: &AdjustedPair, is_horizontal: bool) -> bool {
 
 /// From where the offsets of device tables are counted.
 fn base_of<'a>(turn: &Turn<'a>) -> &'a [u8] {
-    if turn.subtable.format == 2 {
+    if turn.subtable.kind == SubtableKind::PairAdjustment(PairFormat::Classes) {
         turn.subtable.table
     } else {
         pair_set(turn.subtable.table, turn.index).unwrap_or(&[])

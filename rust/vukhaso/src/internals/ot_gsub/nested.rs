@@ -10,8 +10,7 @@ use crate::ot_gsub::ligation::ligate;
 use crate::ot_gsub::multiplication::{choose, multiply, replace};
 use crate::ot_gsub::substitution::{Progress, Substitutions};
 use crate::ot_gsub::writing::{fail, glyph_ahead};
-use crate::ot_layout::{ApplyContext, LookupOptions, Reach, SkippingIterator};
-use crate::ot_lookups::Lookup;
+use crate::ot_layout::{ApplyContext, LookupContext, LookupOptions, Reach};
 use crate::ot_substitution::substitution::{Edit, edit_at};
 
 /// What became of a lookup at the cursor.
@@ -25,22 +24,45 @@ pub(crate) enum Step {
     Refused,
 }
 
+impl Step {
+    /// How many glyphs at the cursor the lookup is not tried at any more: the one at which it does nothing.
+    /// `None` where it goes on nowhere.
+    pub(crate) fn passed(self) -> Option<usize> {
+        match self {
+            Step::Applied => Some(0),
+            Step::Passed => Some(1),
+            Step::Refused => None,
+        }
+    }
+}
+
 /// Applies a lookup to the glyph at the cursor. Lookups may apply others, so many levels deep.
 ///
 /// # Requires
 ///
 /// - `opened: buffer.old.have_output ≡ true`
 /// - `glyph: 0 < length buffer.old.input`
+/// - `made: IsMadeFor substitutions.now.options false applied.now`
 pub(crate) fn apply_at(
     buffer: &mut hb_buffer_t,
     substitutions: &Substitutions,
-    lookup: &Lookup,
+    applied: &LookupContext,
     progress: &mut Progress,
     depth: u32,
 ) -> Result<Step, AllocError> {
     debug_assert!(buffer.have_output());
     debug_assert!(!buffer.info().is_empty());
-    let edit = decide(buffer, substitutions, lookup, progress, depth);
+    let is_nested = depth < MAX_NESTING_LEVEL;
+    let ctx = apply_context(buffer, substitutions, applied);
+    progress.search.reach = Reach::none(ctx.out.len());
+    let edit = edit_at(
+        substitutions.list,
+        applied.lookup,
+        &substitutions.options,
+        is_nested,
+        &ctx,
+        &mut progress.search,
+    );
     mark_reach(buffer, &progress.search.reach);
     let Some(edit) = edit else {
         return Ok(Step::Passed);
@@ -54,40 +76,28 @@ pub(crate) fn apply_at(
     Ok(Step::Applied)
 }
 
-/// What the lookup does at the cursor, and in `progress` how far it looked.
+/// The glyphs on both sides of the cursor, and the iterators of a lookup.
 ///
 /// # Requires
 ///
 /// - `opened: buffer.now.have_output ≡ true`
 /// - `glyph: 0 < length buffer.now.input`
-fn decide<'a>(
-    buffer: &hb_buffer_t,
-    substitutions: &Substitutions<'a>,
-    lookup: &Lookup,
-    progress: &mut Progress,
-    depth: u32,
-) -> Option<Edit<'a>> {
+/// - `made: IsMadeFor substitutions.now.options false applied.now`
+fn apply_context<'a>(
+    buffer: &'a hb_buffer_t,
+    substitutions: &Substitutions,
+    applied: &LookupContext<'a>,
+) -> ApplyContext<'a> {
     debug_assert!(buffer.have_output());
     debug_assert!(!buffer.info().is_empty());
-    let options = &substitutions.options;
-    let ctx = ApplyContext {
+    ApplyContext {
         out: buffer.out_info(),
         input: buffer.info(),
-        iterator: SkippingIterator::over_input(lookup.lookup_props, options, false),
-        context: SkippingIterator::over_context(lookup.lookup_props, options, false),
-        syllable: syllable_at(buffer, options),
+        iterator: applied.iterator,
+        context: applied.context,
+        syllable: syllable_at(buffer, &substitutions.options),
         is_level: buffer.out_len() == buffer.idx(),
-    };
-    progress.search.reach = Reach::none(ctx.out.len());
-    let is_nested = depth < MAX_NESTING_LEVEL;
-    edit_at(
-        substitutions.list,
-        lookup,
-        options,
-        is_nested,
-        &ctx,
-        &mut progress.search,
-    )
+    }
 }
 
 /// The syllable of the current glyph where all glyphs of a match are of one syllable, or else 0.
@@ -358,7 +368,10 @@ fn apply_other(
         return Ok(Step::Passed);
     }
     match substitutions.list.lookup(index) {
-        Some(lookup) => apply_at(buffer, substitutions, lookup, progress, depth - 1),
+        Some(lookup) => {
+            let applied = LookupContext::new(lookup, &substitutions.options, false);
+            apply_at(buffer, substitutions, &applied, progress, depth - 1)
+        }
         None => Ok(Step::Passed),
     }
 }

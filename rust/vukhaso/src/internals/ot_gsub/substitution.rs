@@ -6,15 +6,12 @@ use crate::buffer::hb_buffer_t;
 use crate::font_tables::gdef::Gdef;
 use crate::memory::AllocError;
 use crate::ot_contexts::context::MAX_NESTING_LEVEL;
-use crate::ot_gsub::nested::{Step, apply_at};
+use crate::ot_gsub::nested::apply_at;
 use crate::ot_gsub::reverse::substitute_reverse;
 use crate::ot_gsub::writing::fail;
 use crate::ot_layout::budget::PASSED_A_STEP;
-use crate::ot_layout::{Budget, LookupOptions, Search};
-use crate::ot_lookups::{Lookup, LookupList};
-
-/// The kind of reverse substitutions.
-const REVERSE: u16 = 8;
+use crate::ot_layout::{Budget, LookupContext, LookupOptions, Search};
+use crate::ot_lookups::{Lookup, LookupList, SubtableKind};
 
 /// The lookups, and how one of them is applied.
 #[derive(Clone, Copy, Debug)]
@@ -131,7 +128,7 @@ fn fail_if_spent(buffer: &mut hb_buffer_t, progress: &Progress) {
 /// Whether a lookup is applied from the end.
 fn is_reverse(list: &LookupList, lookup: &Lookup) -> bool {
     match list.subtables_of(lookup).first() {
-        Some(subtable) => subtable.lookup_type == REVERSE,
+        Some(subtable) => subtable.kind == SubtableKind::ReverseSubstitution,
         None => false,
     }
 }
@@ -159,7 +156,8 @@ fn substitute_forward(
     if !open_at(buffer, first)? {
         return Ok(false);
     }
-    if !substitute_rest(buffer, substitutions, lookup, progress)? {
+    let applied = LookupContext::new(lookup, &substitutions.options, false);
+    if !substitute_rest(buffer, substitutions, &applied, progress)? {
         return Ok(false);
     }
     fail_if_spent(buffer, progress);
@@ -183,11 +181,12 @@ fn open_at(buffer: &mut hb_buffer_t, first: usize) -> Result<bool, AllocError> {
 ///
 /// # Requires
 ///
-/// - `buffer.old.have_output ≡ true`
+/// - `opened: buffer.old.have_output ≡ true`
+/// - `made: IsMadeFor substitutions.now.options false applied.now`
 fn substitute_rest(
     buffer: &mut hb_buffer_t,
     substitutions: &Substitutions,
-    lookup: &Lookup,
+    applied: &LookupContext,
     progress: &mut Progress,
 ) -> Result<bool, AllocError> {
     debug_assert!(buffer.have_output());
@@ -199,32 +198,16 @@ fn substitute_rest(
         if progress.search.budget.is_spent() {
             return Ok(true);
         }
-        if !substitute_next(buffer, substitutions, lookup, progress)? {
+        let step = apply_at(buffer, substitutions, applied, progress, MAX_NESTING_LEVEL)?;
+        let passed = match step.passed() {
+            Some(passed) => passed,
+            None => return Ok(false),
+        };
+        if !go_on(buffer, substitutions, applied.lookup, passed)? {
             return Ok(false);
         }
     }
     Ok(true)
-}
-
-/// Applies the lookup at the cursor, and puts out the glyphs after that it is not for.
-///
-/// # Requires
-///
-/// - `opened: buffer.old.have_output ≡ true`
-/// - `glyph: 0 < length buffer.old.input`
-fn substitute_next(
-    buffer: &mut hb_buffer_t,
-    substitutions: &Substitutions,
-    lookup: &Lookup,
-    progress: &mut Progress,
-) -> Result<bool, AllocError> {
-    debug_assert!(buffer.have_output());
-    debug_assert!(!buffer.info().is_empty());
-    match apply_at(buffer, substitutions, lookup, progress, MAX_NESTING_LEVEL)? {
-        Step::Applied => go_on(buffer, substitutions, lookup, 0),
-        Step::Refused => Ok(false),
-        Step::Passed => go_on(buffer, substitutions, lookup, 1),
-    }
 }
 
 /// Puts out so many glyphs, if there are as many, and those after them that the lookup is not for.

@@ -22,23 +22,18 @@ const IGNORE_MARKS: u16 = 0x0008;
 ///
 /// # Requires
 ///
-/// - `closed: buffer.old.have_output ≡ false`
-/// - `placed: IsSome buffer.old.positions`
+/// - `placed: HasPositions buffer.old`
 ///
 /// # Proved
 ///
 /// ```text
 /// ensures is { buffer.new ≡ kerning.kerned table.now scale.now options.now buffer.old }
-/// ensures closed { buffer.new.have_output ≡ false }
-/// ensures placed { IsSome buffer.new.positions }
-/// ensures rest { untouched buffer.new ≡ untouched buffer.old }
-/// ensures flags { KeepsBits buffer.old.input buffer.new.input }
+/// ensures kept { KeepsText buffer.old buffer.new }
 /// ensures keeps { KeepsClusters buffer.old buffer.new }
 /// ```
 #[inline]
 pub fn kern(buffer: &mut hb_buffer_t, table: &KernTable, scale: &Scale, options: &LookupOptions) {
-    debug_assert!(!buffer.have_output());
-    debug_assert!(buffer.have_positions());
+    debug_assert!(!buffer.have_output() && buffer.have_positions());
     debug_assert!(buffer.out_len() == 0);
     kern_by_all(buffer, table, scale, options);
     debug_assert!(buffer.out_len() == 0);
@@ -48,16 +43,14 @@ pub fn kern(buffer: &mut hb_buffer_t, table: &KernTable, scale: &Scale, options:
 ///
 /// # Requires
 ///
-/// - `closed: buffer.old.have_output ≡ false`
-/// - `placed: IsSome buffer.old.positions`
+/// - `placed: HasPositions buffer.old`
 fn kern_by_all(
     buffer: &mut hb_buffer_t,
     table: &KernTable,
     scale: &Scale,
     options: &LookupOptions,
 ) {
-    debug_assert!(!buffer.have_output());
-    debug_assert!(buffer.have_positions());
+    debug_assert!(!buffer.have_output() && buffer.have_positions());
     mark_concat(buffer, 0, usize::MAX);
     let iterator = over_bases(options);
     let mut is_chained = false;
@@ -102,12 +95,10 @@ fn over_bases<'a>(options: &LookupOptions) -> SkippingIterator<'a> {
 ///
 /// # Requires
 ///
-/// - `closed: buffer.old.have_output ≡ false`
-/// - `placed: IsSome buffer.old.positions`
+/// - `placed: HasPositions buffer.old`
 /// - `passes: PassesMarks machine.now.iterator`
 fn apply(buffer: &mut hb_buffer_t, machine: &KernMachine, is_chained: bool) -> bool {
-    debug_assert!(!buffer.have_output());
-    debug_assert!(buffer.have_positions());
+    debug_assert!(!buffer.have_output() && buffer.have_positions());
     if is_for(&machine.subtable.coverage, machine.direction) {
         chain(buffer, machine, is_chained);
         kern_by(buffer, machine);
@@ -132,11 +123,9 @@ fn is_for(coverage: &KernCoverage, direction: Direction) -> bool {
 ///
 /// # Requires
 ///
-/// - `closed: buffer.old.have_output ≡ false`
-/// - `placed: IsSome buffer.old.positions`
+/// - `placed: HasPositions buffer.old`
 fn chain(buffer: &mut hb_buffer_t, machine: &KernMachine, is_chained: bool) {
-    debug_assert!(!buffer.have_output());
-    debug_assert!(buffer.have_positions());
+    debug_assert!(!buffer.have_output() && buffer.have_positions());
     if machine.subtable.coverage.is_cross_stream && !is_chained {
         let chain = chain_back(machine.direction);
         chain_all(buffer.pos_mut(), chain);
@@ -166,12 +155,10 @@ fn join(position: &mut GlyphPosition, chain: i16) {
 ///
 /// # Requires
 ///
-/// - `closed: buffer.old.have_output ≡ false`
-/// - `placed: IsSome buffer.old.positions`
+/// - `placed: HasPositions buffer.old`
 /// - `passes: PassesMarks machine.now.iterator`
 fn kern_by(buffer: &mut hb_buffer_t, machine: &KernMachine) {
-    debug_assert!(!buffer.have_output());
-    debug_assert!(buffer.have_positions());
+    debug_assert!(!buffer.have_output() && buffer.have_positions());
     let len = buffer.len();
     let mut turn = 0;
     let mut across = None;
@@ -190,8 +177,7 @@ fn kern_by(buffer: &mut hb_buffer_t, machine: &KernMachine) {
 ///
 /// # Requires
 ///
-/// - `closed: buffer.old.have_output ≡ false`
-/// - `placed: IsSome buffer.old.positions`
+/// - `placed: HasPositions buffer.old`
 /// - `passes: PassesMarks machine.now.iterator`
 /// - `there: turn < length buffer.old.input`
 fn kern_at(
@@ -200,8 +186,7 @@ fn kern_at(
     turn: usize,
     across: &mut Option<usize>,
 ) -> usize {
-    debug_assert!(!buffer.have_output());
-    debug_assert!(buffer.have_positions());
+    debug_assert!(!buffer.have_output() && buffer.have_positions());
     debug_assert!(turn < buffer.info().len());
     let len = buffer.len();
     let left = in_line(machine.direction, len, turn);
@@ -232,11 +217,9 @@ fn first_crossed(pair: &KernPair, across: Option<usize>) -> Option<usize> {
 ///
 /// # Requires
 ///
-/// - `closed: buffer.old.have_output ≡ false`
-/// - `placed: IsSome buffer.old.positions`
+/// - `placed: HasPositions buffer.old`
 fn mark_rest(buffer: &mut hb_buffer_t, direction: Direction, across: Option<usize>) {
-    debug_assert!(!buffer.have_output());
-    debug_assert!(buffer.have_positions());
+    debug_assert!(!buffer.have_output() && buffer.have_positions());
     match across {
         Some(left) => {
             if direction.is_forward() {
@@ -253,13 +236,11 @@ fn mark_rest(buffer: &mut hb_buffer_t, direction: Direction, across: Option<usiz
 ///
 /// # Requires
 ///
-/// - `closed: buffer.old.have_output ≡ false`
-/// - `placed: IsSome buffer.old.positions`
+/// - `placed: HasPositions buffer.old`
 /// - `left: pair.now.left < length buffer.old.input`
 /// - `right: pair.now.right < length buffer.old.input`
 fn try_pair(buffer: &mut hb_buffer_t, machine: &KernMachine, pair: &KernPair) {
-    debug_assert!(!buffer.have_output());
-    debug_assert!(buffer.have_positions());
+    debug_assert!(!buffer.have_output() && buffer.have_positions());
     if pair.value == 0 {
         mark_unkerned(buffer, machine, pair);
     } else {
@@ -271,13 +252,11 @@ fn try_pair(buffer: &mut hb_buffer_t, machine: &KernMachine, pair: &KernPair) {
 ///
 /// # Requires
 ///
-/// - `closed: buffer.old.have_output ≡ false`
-/// - `placed: IsSome buffer.old.positions`
+/// - `placed: HasPositions buffer.old`
 /// - `left: pair.now.left < length buffer.old.input`
 /// - `right: pair.now.right < length buffer.old.input`
 fn mark_unkerned(buffer: &mut hb_buffer_t, machine: &KernMachine, pair: &KernPair) {
-    debug_assert!(!buffer.have_output());
-    debug_assert!(buffer.have_positions());
+    debug_assert!(!buffer.have_output() && buffer.have_positions());
     if passes_over_pair(buffer.info(), machine, pair) {
         mark_passed(buffer, pair);
     }
@@ -287,11 +266,9 @@ fn mark_unkerned(buffer: &mut hb_buffer_t, machine: &KernMachine, pair: &KernPai
 ///
 /// # Requires
 ///
-/// - `closed: buffer.old.have_output ≡ false`
-/// - `placed: IsSome buffer.old.positions`
+/// - `placed: HasPositions buffer.old`
 fn kern_pair(buffer: &mut hb_buffer_t, machine: &KernMachine, pair: &KernPair) {
-    debug_assert!(!buffer.have_output());
-    debug_assert!(buffer.have_positions());
+    debug_assert!(!buffer.have_output() && buffer.have_positions());
     put(buffer, machine, pair);
     let (first, second) = (pair.left.min(pair.right), pair.left.max(pair.right));
     mark_break(buffer, first, second.saturating_add(1));
@@ -301,11 +278,9 @@ fn kern_pair(buffer: &mut hb_buffer_t, machine: &KernMachine, pair: &KernPair) {
 ///
 /// # Requires
 ///
-/// - `closed: buffer.old.have_output ≡ false`
-/// - `placed: IsSome buffer.old.positions`
+/// - `placed: HasPositions buffer.old`
 fn put(buffer: &mut hb_buffer_t, machine: &KernMachine, pair: &KernPair) {
-    debug_assert!(!buffer.have_output());
-    debug_assert!(buffer.have_positions());
+    debug_assert!(!buffer.have_output() && buffer.have_positions());
     move_pair(buffer.pos_mut(), machine, pair);
     if pair.is_cross_stream {
         mark_attached(buffer);
@@ -316,11 +291,9 @@ fn put(buffer: &mut hb_buffer_t, machine: &KernMachine, pair: &KernPair) {
 ///
 /// # Requires
 ///
-/// - `closed: buffer.old.have_output ≡ false`
-/// - `placed: IsSome buffer.old.positions`
+/// - `placed: HasPositions buffer.old`
 fn mark_passed(buffer: &mut hb_buffer_t, pair: &KernPair) {
-    debug_assert!(!buffer.have_output());
-    debug_assert!(buffer.have_positions());
+    debug_assert!(!buffer.have_output() && buffer.have_positions());
     if pair.left <= pair.right {
         mark_break(buffer, pair.left, pair.right);
     } else {

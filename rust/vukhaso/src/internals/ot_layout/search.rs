@@ -5,10 +5,41 @@
 use crate::arrayvec::ArrayVec;
 use crate::glyph::hb_glyph_info_t;
 use crate::ot_layout::budget::Budget;
-use crate::ot_layout::skipping_iterator::SkippingIterator;
+use crate::ot_layout::skipping_iterator::{LookupOptions, SkippingIterator};
+use crate::ot_lookups::Lookup;
 
 /// The places of the glyphs of a match, counted from the cursor: the first is 0.
 pub type MatchPositions = ArrayVec<usize, 64>;
+
+/// A lookup that is applied, and the iterators over the glyphs that it does not pass over, which are made once for it.
+#[derive(Clone, Copy, Debug)]
+pub struct LookupContext<'a> {
+    /// The lookup.
+    pub lookup: &'a Lookup<'a>,
+    /// The iterator over the glyphs of a match.
+    pub iterator: SkippingIterator<'a>,
+    /// The iterator over the glyphs before and after a match.
+    pub context: SkippingIterator<'a>,
+}
+
+impl<'a> LookupContext<'a> {
+    /// A lookup that is applied by these options.
+    ///
+    /// # Proved
+    ///
+    /// ```text
+    /// ensures lookup { result.lookup.now ≡ lookup.now }
+    /// ensures made { IsMadeFor options.now is_positioning result }
+    /// ```
+    #[inline]
+    pub fn new(lookup: &'a Lookup<'a>, options: &LookupOptions, is_positioning: bool) -> Self {
+        LookupContext {
+            lookup,
+            iterator: SkippingIterator::over_input(lookup.lookup_props, options, is_positioning),
+            context: SkippingIterator::over_context(lookup.lookup_props, options, is_positioning),
+        }
+    }
+}
 
 /// The glyphs on both sides of the cursor.
 #[derive(Clone, Copy, Debug)]

@@ -9,7 +9,6 @@ use crate::font_tables::gdef::Gdef;
 use crate::glyph_digests::digest::Digest;
 use crate::memory::{AllocError, Vec};
 use crate::numbers::Chunks;
-use crate::ot_lookups::formats::has_format;
 use crate::ot_lookups::known::{
     Known, Summed, known_at, make_room, quick_coverage, read_coverage, size_of, summed_of,
 };
@@ -20,16 +19,15 @@ use crate::ot_lookups::reading::{
 };
 use crate::ot_lookups::seconds::seconds_of;
 use crate::ot_lookups::subtable::{
-    MAX_CONTEXT_LENGTH, NextAsked, Subtable, SubtableFormat, behind_extension, behind_list,
-    input_classes_at, positioning_form, substitution_form, table_or_empty,
+    MAX_CONTEXT_LENGTH, NextAsked, Subtable, behind_extension, behind_list, table_or_empty,
+};
+use crate::ot_lookups::subtable_kind::{
+    ContextFormat, PairFormat, SubtableKind, input_classes_at, kind_of,
 };
 use crate::ot_lookups::subtable_limit::subtable_count;
 
 /// How many subtables room is made for before they are read.
 const MOST_RESERVED: usize = 4096;
-
-/// The kind of ligatures in `GSUB`.
-const LIGATURES: u16 = 4;
 
 /// The bit of a lookup's flag that says that a set of marks follows the subtables.
 const USE_MARK_FILTERING_SET: u16 = 0x0010;
@@ -145,33 +143,26 @@ impl<'a> LookupReader<'a> {
             (lookup_type, table)
         };
         let format = u16_at(table, 0).unwrap_or(0);
-        if !has_format(self.is_positioning(), lookup_type, format) {
-            return Ok(());
-        }
-        let form = self.form_of(lookup_type, format);
-        match form {
-            SubtableFormat::Plain | SubtableFormat::Marks => {
-                self.read_plain(form, lookup_type, format, table)
-            }
-            _ => self.read_formed(form, lookup_type, format, table),
+        match kind_of(self.is_positioning(), lookup_type, format) {
+            None => Ok(()),
+            Some(
+                kind @ (SubtableKind::Context(_)
+                | SubtableKind::ChainedContext(_)
+                | SubtableKind::ReverseSubstitution
+                | SubtableKind::PairAdjustment(PairFormat::Classes)),
+            ) => self.read_parsed(kind, table),
+            Some(kind) => self.read_plain(kind, table),
         }
     }
 
     /// Reads a subtable of which nothing is parsed but its coverages, and the second glyphs of its
     /// ligatures.
     #[inline(always)]
-    fn read_plain(
-        &mut self,
-        form: SubtableFormat,
-        lookup_type: u16,
-        format: u16,
-        table: &'a [u8],
-    ) -> Result<(), AllocError> {
-        let bases = self.bases_if(form == SubtableFormat::Marks, table);
+    fn read_plain(&mut self, kind: SubtableKind, table: &'a [u8]) -> Result<(), AllocError> {
+        let bases = self.bases_if(kind.attaches_marks(), table);
         let first = self.summed(table_or_empty(table, 2));
         let subtable = Subtable {
-            lookup_type,
-            format,
+            kind,
             table,
             coverage: first.coverage,
             digest: first.summaries.digest,
@@ -182,38 +173,28 @@ impl<'a> LookupReader<'a> {
             lookahead_classes: ClassDefinition::new(&[]),
             next: None,
             first_coverage: self.coverages.len(),
-            seconds: self.seconds(lookup_type, table),
+            seconds: self.seconds(kind, table),
         };
         self.add_subtable(subtable)
     }
 
-    /// Reads a subtable of another form. None of these has ligatures.
-    ///
-    /// # Requires
-    ///
-    /// - `is_covered_form form ≡ true → is_chained_type lookup_type ≡ is_chained_form form`
-    fn read_formed(
-        &mut self,
-        form: SubtableFormat,
-        lookup_type: u16,
-        format: u16,
-        table: &'a [u8],
-    ) -> Result<(), AllocError> {
+    /// Reads a subtable that has classes, or coverages beside the one at its head. None of these has
+    /// ligatures.
+    fn read_parsed(&mut self, kind: SubtableKind, table: &'a [u8]) -> Result<(), AllocError> {
         let first_coverage = self.coverages.len();
-        self.read_coverages(form, table)?;
-        let first = self.first_of(form, table, first_coverage);
+        self.read_coverages(kind, table)?;
+        let first = self.first_of(kind, table, first_coverage);
         let subtable = Subtable {
-            lookup_type,
-            format,
+            kind,
             table,
             coverage: first.coverage,
             digest: first.summaries.digest,
             firsts: first.summaries.firsts,
             bases: Coverage::new(&[]),
-            classes: self.input_classes(form, table),
-            backtrack_classes: self.classes_if(form == SubtableFormat::ChainedClasses, table, 4),
-            lookahead_classes: self.ahead_classes(form, table),
-            next: self.next_asked(form, table, first_coverage),
+            classes: self.input_classes(kind, table),
+            backtrack_classes: self.backtrack_classes(kind, table),
+            lookahead_classes: self.lookahead_classes(kind, table),
+            next: self.next_asked(kind, table, first_coverage),
             first_coverage,
             seconds: None,
         };
@@ -230,26 +211,19 @@ impl<'a> LookupReader<'a> {
         Ok(())
     }
 
-    /// The form of a subtable.
-    fn form_of(&self, lookup_type: u16, format: u16) -> SubtableFormat {
-        if self.is_positioning() {
-            positioning_form(lookup_type, format)
-        } else {
-            substitution_form(lookup_type, format)
-        }
-    }
-
     /// Reads the coverages of a context by coverages, or around a reverse substitution.
-    fn read_coverages(&mut self, form: SubtableFormat, table: &'a [u8]) -> Result<(), AllocError> {
-        match form {
-            SubtableFormat::Coverages => self.read_offsets(table, 6, u16_at(table, 2).unwrap_or(0)),
-            SubtableFormat::ChainedCoverages => {
+    fn read_coverages(&mut self, kind: SubtableKind, table: &'a [u8]) -> Result<(), AllocError> {
+        match kind {
+            SubtableKind::Context(ContextFormat::Coverages) => {
+                self.read_offsets(table, 6, u16_at(table, 2).unwrap_or(0))
+            }
+            SubtableKind::ChainedContext(ContextFormat::Coverages) => {
                 let input = self.read_list(table, 2)?;
                 let lookahead = self.read_list(table, input)?;
                 let _records = self.read_list(table, lookahead)?;
                 Ok(())
             }
-            SubtableFormat::Reverse => {
+            SubtableKind::ReverseSubstitution => {
                 let lookahead = self.read_list(table, 4)?;
                 let _substitutes = self.read_list(table, lookahead)?;
                 Ok(())
@@ -301,10 +275,10 @@ impl<'a> LookupReader<'a> {
     }
 
     /// The glyphs at the cursor: in a context by coverages the first of those of the input.
-    fn first_of(&mut self, form: SubtableFormat, table: &'a [u8], first: usize) -> Summed<'a> {
-        let input = match form {
-            SubtableFormat::Coverages => first,
-            SubtableFormat::ChainedCoverages => {
+    fn first_of(&mut self, kind: SubtableKind, table: &'a [u8], first: usize) -> Summed<'a> {
+        let input = match kind {
+            SubtableKind::Context(ContextFormat::Coverages) => first,
+            SubtableKind::ChainedContext(ContextFormat::Coverages) => {
                 first.saturating_add(usize::from(u16_at(table, 2).unwrap_or(0)))
             }
             _ => return self.summed(table_or_empty(table, 2)),
@@ -321,11 +295,11 @@ impl<'a> LookupReader<'a> {
     /// the input, or where the input has one, the first after it.
     fn next_asked(
         &self,
-        form: SubtableFormat,
+        kind: SubtableKind,
         table: &'a [u8],
         first: usize,
     ) -> Option<NextAsked<'a>> {
-        let (backtrack, input, lookahead) = coverage_numbers(form, table)?;
+        let (backtrack, input, lookahead) = coverage_numbers(kind, table)?;
         if usize::from(input) > MAX_CONTEXT_LENGTH || !has_next(input, lookahead) {
             return None;
         }
@@ -336,26 +310,40 @@ impl<'a> LookupReader<'a> {
 
     /// The second glyphs of the ligatures of a subtable, if it has ligatures, each with a second glyph.
     #[inline(always)]
-    fn seconds(&mut self, lookup_type: u16, table: &[u8]) -> Option<Digest> {
-        if self.is_positioning() || lookup_type != LIGATURES {
+    fn seconds(&mut self, kind: SubtableKind, table: &[u8]) -> Option<Digest> {
+        if kind != SubtableKind::LigatureSubstitution {
             return None;
         }
         seconds_of(table, &mut self.second_room)
     }
 
     /// The classes of the input.
-    fn input_classes(&mut self, form: SubtableFormat, table: &'a [u8]) -> ClassDefinition<'a> {
-        match input_classes_at(form) {
+    fn input_classes(&mut self, kind: SubtableKind, table: &'a [u8]) -> ClassDefinition<'a> {
+        match input_classes_at(kind) {
             Some(at) => self.classes(table_or_empty(table, at)),
             None => ClassDefinition::new(&[]),
         }
     }
 
+    /// The classes of what stands before the input.
+    fn backtrack_classes(&mut self, kind: SubtableKind, table: &'a [u8]) -> ClassDefinition<'a> {
+        match kind {
+            SubtableKind::ChainedContext(ContextFormat::Classes) => {
+                self.classes(table_or_empty(table, 4))
+            }
+            _ => ClassDefinition::new(&[]),
+        }
+    }
+
     /// The classes of what stands after the input.
-    fn ahead_classes(&mut self, form: SubtableFormat, table: &'a [u8]) -> ClassDefinition<'a> {
-        match form {
-            SubtableFormat::ChainedClasses => self.classes(table_or_empty(table, 8)),
-            SubtableFormat::PairClasses => self.classes(table_or_empty(table, 10)),
+    fn lookahead_classes(&mut self, kind: SubtableKind, table: &'a [u8]) -> ClassDefinition<'a> {
+        match kind {
+            SubtableKind::ChainedContext(ContextFormat::Classes) => {
+                self.classes(table_or_empty(table, 8))
+            }
+            SubtableKind::PairAdjustment(PairFormat::Classes) => {
+                self.classes(table_or_empty(table, 10))
+            }
             _ => ClassDefinition::new(&[]),
         }
     }
@@ -371,15 +359,6 @@ impl<'a> LookupReader<'a> {
             quick_coverage(table)
         } else {
             Coverage::new(&[])
-        }
-    }
-
-    /// The classes that the offset at a place leads to, if there are any in this form.
-    fn classes_if(&mut self, is_there: bool, table: &'a [u8], at: usize) -> ClassDefinition<'a> {
-        if is_there {
-            self.classes(table_or_empty(table, at))
-        } else {
-            ClassDefinition::new(&[])
         }
     }
 

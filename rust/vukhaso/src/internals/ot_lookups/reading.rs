@@ -7,7 +7,8 @@ use crate::font_tables::class_definition::ClassDefinition;
 use crate::glyph_digests::digest::Digest;
 use crate::glyph_digests::first_glyphs::{FirstGlyphs, Summaries};
 use crate::glyph_digests::summary::Summary;
-use crate::ot_lookups::subtable::{Subtable, SubtableFormat};
+use crate::ot_lookups::subtable::Subtable;
+use crate::ot_lookups::subtable_kind::{ContextFormat, SubtableKind};
 
 /// The classes in these bytes, or none where they are slow to ask.
 pub(crate) fn quick_classes(table: &[u8]) -> ClassDefinition<'_> {
@@ -20,10 +21,10 @@ pub(crate) fn quick_classes(table: &[u8]) -> ClassDefinition<'_> {
 }
 
 /// How many coverages a context by coverages has before the cursor, for its input and after it.
-pub(crate) fn coverage_numbers(form: SubtableFormat, table: &[u8]) -> Option<(u16, u16, u16)> {
-    match form {
-        SubtableFormat::Coverages => Some((0, u16_at(table, 2)?, 0)),
-        SubtableFormat::ChainedCoverages => {
+pub(crate) fn coverage_numbers(kind: SubtableKind, table: &[u8]) -> Option<(u16, u16, u16)> {
+    match kind {
+        SubtableKind::Context(ContextFormat::Coverages) => Some((0, u16_at(table, 2)?, 0)),
+        SubtableKind::ChainedContext(ContextFormat::Coverages) => {
             let backtrack = u16_at(table, 2)?;
             let input_at = 4 + 2 * usize::from(backtrack);
             let input = u16_at(table, input_at)?;

@@ -7,6 +7,7 @@ use crate::font_tables::class_definition::ClassDefinition;
 use crate::font_tables::coverage::Coverage;
 use crate::glyph_digests::digest::Digest;
 use crate::glyph_digests::first_glyphs::FirstGlyphs;
+use crate::ot_lookups::subtable_kind::SubtableKind;
 
 /// The most glyphs that a match takes (HarfBuzz, `HB_MAX_CONTEXT_LENGTH`).
 pub const MAX_CONTEXT_LENGTH: usize = 64;
@@ -22,10 +23,8 @@ pub const MAX_CONTEXT_LENGTH: usize = 64;
 /// ```
 #[derive(Clone, Copy, Debug)]
 pub struct Subtable<'a> {
-    /// Its kind, that of an extension being the one after it.
-    pub lookup_type: u16,
-    /// Its format.
-    pub format: u16,
+    /// What it does; behind an extension, what the subtable there does.
+    pub kind: SubtableKind,
     /// The bytes of the subtable, and what stands after it.
     pub table: &'a [u8],
     /// The glyphs that it is for: those at the cursor.
@@ -34,7 +33,7 @@ pub struct Subtable<'a> {
     pub digest: Digest,
     /// Those of them that are among the first 256.
     pub firsts: FirstGlyphs,
-    /// The bases, ligatures or marks that marks are attached to (kinds 4, 5 and 6 of `GPOS`).
+    /// The bases, ligatures or marks that marks are attached to.
     pub bases: Coverage<'a>,
     /// The classes of glyphs, those of the input in a chained context, and of the first glyph in a pair.
     pub classes: ClassDefinition<'a>,
@@ -44,7 +43,7 @@ pub struct Subtable<'a> {
     pub lookahead_classes: ClassDefinition<'a>,
     /// What a context by coverages asks of the glyph after the one at the cursor, if it asks for anything there.
     pub next: Option<NextAsked<'a>>,
-    /// Where the coverages of a context of format 3 begin, or those around a reverse substitution, in
+    /// Where the coverages of a context by coverages begin, or those around a reverse substitution, in
     /// `LookupList::coverages`.
     pub first_coverage: usize,
     /// The digest of the second glyphs of all ligatures of a subtable of ligatures; `None` where one has a single component.
@@ -110,87 +109,6 @@ fn next_digest(coverage: &Coverage) -> Digest {
         Digest::full()
     } else {
         Digest::of_coverage(coverage)
-    }
-}
-
-/// What the tables of a subtable are called in its layout.
-#[derive(Clone, Copy, PartialEq, Eq, Debug)]
-pub enum SubtableFormat {
-    /// A coverage at the byte 2, and nothing else that is parsed.
-    Plain,
-    /// A context by glyphs: a coverage at the byte 2.
-    Glyphs,
-    /// A context by classes: a coverage at the byte 2, and classes after it.
-    Classes,
-    /// A chained context by classes: a coverage at the byte 2, and three tables of classes after it.
-    ChainedClasses,
-    /// A context by coverages.
-    Coverages,
-    /// A chained context by coverages.
-    ChainedCoverages,
-    /// A reverse substitution: a coverage at the byte 2, and then coverages before and after the glyph.
-    Reverse,
-    /// Pairs by classes: a coverage at the byte 2, and two tables of classes from the byte 8 on.
-    PairClasses,
-    /// Marks and what they are attached to: coverages at the bytes 2 and 4.
-    Marks,
-}
-
-/// The form of a subtable of `GSUB`.
-///
-/// # Proved
-///
-/// ```text
-/// ensures is { result ≡ substitution_form lookup_type format }
-/// ensures chained { is_covered_form result ≡ true → is_chained_type lookup_type ≡ is_chained_form result }
-/// ```
-#[inline]
-pub fn substitution_form(lookup_type: u16, format: u16) -> SubtableFormat {
-    match lookup_type {
-        5 => context_form(format, false),
-        6 => context_form(format, true),
-        8 => SubtableFormat::Reverse,
-        _ => SubtableFormat::Plain,
-    }
-}
-
-/// The form of a subtable of `GPOS`.
-///
-/// # Proved
-///
-/// ```text
-/// ensures is { result ≡ positioning_form lookup_type format }
-/// ensures chained { is_covered_form result ≡ true → is_chained_type lookup_type ≡ is_chained_form result }
-/// ```
-#[inline]
-pub fn positioning_form(lookup_type: u16, format: u16) -> SubtableFormat {
-    match lookup_type {
-        2 if format == 2 => SubtableFormat::PairClasses,
-        4 | 5 | 6 => SubtableFormat::Marks,
-        7 => context_form(format, false),
-        8 => context_form(format, true),
-        _ => SubtableFormat::Plain,
-    }
-}
-
-/// The form of a context.
-fn context_form(format: u16, is_chained: bool) -> SubtableFormat {
-    match format {
-        2 if is_chained => SubtableFormat::ChainedClasses,
-        2 => SubtableFormat::Classes,
-        3 if is_chained => SubtableFormat::ChainedCoverages,
-        3 => SubtableFormat::Coverages,
-        _ => SubtableFormat::Glyphs,
-    }
-}
-
-/// Where a subtable of a form has the offset of the classes of its input; `None` where these have none.
-pub(crate) fn input_classes_at(form: SubtableFormat) -> Option<usize> {
-    match form {
-        SubtableFormat::Classes => Some(4),
-        SubtableFormat::ChainedClasses => Some(6),
-        SubtableFormat::PairClasses => Some(8),
-        _ => None,
     }
 }
 

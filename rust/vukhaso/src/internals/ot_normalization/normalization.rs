@@ -20,6 +20,7 @@ use crate::script_items::item::is_unicode_mark;
 use crate::script_shapers::{NormalizationMode, ScriptPlan};
 use composed_again::keep_composed_again;
 use decomposition::decompose_all;
+use pairs::Composing;
 use recomposition::recompose_all;
 use reordering::{reorder_marks, unhide_joiners};
 
@@ -42,9 +43,7 @@ use reordering::{reorder_marks, unhide_joiners};
 /// # Proved
 ///
 /// ```text
-/// ensures closed { IfOk result (λ done. done ≡ true → buffer.new.have_output ≡ false) }
-/// ensures refusal { IsRefusal false result buffer.new }
-/// ensures keeps { KeepsClusters buffer.old buffer.new }
+/// ensures { Closes result buffer.old buffer.new }
 /// ```
 #[inline]
 pub fn normalize<F: FontFunctions>(
@@ -68,7 +67,7 @@ pub fn normalize<F: FontFunctions>(
     if !composes {
         return Ok(true);
     }
-    recompose_all(buffer, font, script)
+    recompose_all(buffer, &Composing::new(font, script))
 }
 
 /// Shows the grapheme joiners that marks may have passed, where the text has any.
@@ -95,11 +94,9 @@ fn has_marks(infos: &[hb_glyph_info_t]) -> bool {
 ///
 /// # Requires
 ///
-/// - `opened: buffer.old.have_output ≡ true`
-/// - `glyph: 0 < length buffer.old.input`
+/// - `HasCurrent buffer.old`
 fn drop_behind(buffer: &mut hb_buffer_t) {
-    debug_assert!(buffer.have_output());
-    debug_assert!(!buffer.info().is_empty());
+    debug_assert!(buffer.have_output() && !buffer.info().is_empty());
     if buffer.out_len() > 0 && buffer.prev().cluster == buffer.cur(0).cluster {
         buffer.skip_glyph();
     } else if allows_any_order(buffer) {

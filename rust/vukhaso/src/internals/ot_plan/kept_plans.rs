@@ -6,6 +6,7 @@ use crate::buffer::{Feature, hb_buffer_t};
 use crate::font_face::Face;
 use crate::font_functions::FontFunctions;
 use crate::memory::{AllocError, Vec};
+use crate::ot_plan::planning::SegmentProperties;
 use crate::ot_plan::shape_plan::ShapePlan;
 
 /// How many plans are kept at most: for so many scripts, languages, directions and features that texts have in turn.
@@ -115,12 +116,10 @@ fn plan_of_buffer<F: FontFunctions>(
     features: &[Feature],
     buffer: &hb_buffer_t,
 ) -> Result<ShapePlan, AllocError> {
-    ShapePlan::with_functions(
-        face,
-        font,
-        buffer.direction,
-        buffer.script,
-        buffer.language.as_ref(),
-        features,
-    )
+    let segment = SegmentProperties {
+        direction: buffer.direction,
+        script: buffer.script,
+        language: buffer.language.as_ref(),
+    };
+    ShapePlan::with_functions(face, font, &segment, features)
 }

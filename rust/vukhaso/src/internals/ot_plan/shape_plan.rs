@@ -71,7 +71,12 @@ impl ShapePlan {
         user_features: &[Feature],
     ) -> Result<Self, AllocError> {
         let own = OwnFunctions { face };
-        Self::with_functions(face, &own, direction, script, language, user_features)
+        let segment = SegmentProperties {
+            direction,
+            script,
+            language,
+        };
+        Self::with_functions(face, &own, &segment, user_features)
     }
 
     /// The plan for such texts by a font of which these functions answer. It is for this font and these
@@ -79,21 +84,14 @@ impl ShapePlan {
     pub(crate) fn with_functions<F: FontFunctions>(
         face: &Face,
         font: &F,
-        direction: Direction,
-        script: Option<Script>,
-        language: Option<&Language>,
+        segment: &SegmentProperties,
         user_features: &[Feature],
     ) -> Result<Self, AllocError> {
-        let segment = SegmentProperties {
-            direction,
-            script,
-            language,
-        };
         Ok(ShapePlan {
-            made: plan_for(face, font, &segment, user_features)?,
-            direction,
-            script,
-            language: text_of_language(language)?,
+            made: plan_for(face, font, segment, user_features)?,
+            direction: segment.direction,
+            script: segment.script,
+            language: text_of_language(segment.language)?,
             features: copy_of_features(user_features)?,
             coordinates: copy_of_coordinates(face)?,
         })

@@ -15,7 +15,7 @@ use crate::ot_gpos_tables::contour_points::{ContourPoint, ContourPoints};
 use crate::ot_gpos_tables::instance::Instance;
 use crate::ot_gpos_tables::kern_table::KernTable;
 use crate::ot_layout::{LookupOptions, Search};
-use crate::ot_map::{LayoutPlan, OtShapePlan, PlannedLookup};
+use crate::ot_map::{OtShapePlan, PlannedLookup};
 use crate::ot_plan::{Step, Watch, budget_of, options_of};
 
 /// The size and the variations at which a font is used, as its lookups ask for them.
@@ -47,8 +47,7 @@ impl<F: FontFunctions> ContourPoints for FontPoints<'_, F> {
 ///
 /// # Requires
 ///
-/// - `closed: buffer.old.have_output ≡ false`
-/// - `placed: IsSome buffer.old.positions`
+/// - `placed: HasPositions buffer.old`
 pub(crate) fn position_by_lookups<F: FontFunctions, W: Watch>(
     buffer: &mut hb_buffer_t,
     face: &Face,
@@ -56,48 +55,33 @@ pub(crate) fn position_by_lookups<F: FontFunctions, W: Watch>(
     plan: &OtShapePlan,
     watch: &mut W,
 ) -> Result<(), AllocError> {
-    debug_assert!(!buffer.have_output());
-    debug_assert!(buffer.have_positions());
+    debug_assert!(!buffer.have_output() && buffer.have_positions());
     position_start(buffer);
-    position_by_gpos(buffer, face, font, plan, watch)?;
+    apply_positions(buffer, face, font, lookups_of(plan), watch)?;
     kern_by_table(buffer, face, plan, watch)
 }
 
-/// Applies the lookups of `GPOS`, where the plan has them.
-///
-/// # Requires
-///
-/// - `closed: buffer.old.have_output ≡ false`
-/// - `placed: IsSome buffer.old.positions`
-fn position_by_gpos<F: FontFunctions, W: Watch>(
-    buffer: &mut hb_buffer_t,
-    face: &Face,
-    font: &F,
-    plan: &OtShapePlan,
-    watch: &mut W,
-) -> Result<(), AllocError> {
-    debug_assert!(!buffer.have_output());
-    debug_assert!(buffer.have_positions());
+/// The lookups of `GPOS`, where the plan has them.
+fn lookups_of(plan: &OtShapePlan) -> &[PlannedLookup] {
     if plan.apply_gpos {
-        apply_positions(buffer, face, font, &plan.layout, watch)?;
+        plan.layout.gpos_lookups.as_slice()
+    } else {
+        &[]
     }
-    Ok(())
 }
 
 /// Kerns by the table `kern`, where the plan has it.
 ///
 /// # Requires
 ///
-/// - `closed: buffer.old.have_output ≡ false`
-/// - `placed: IsSome buffer.old.positions`
+/// - `placed: HasPositions buffer.old`
 fn kern_by_table<W: Watch>(
     buffer: &mut hb_buffer_t,
     face: &Face,
     plan: &OtShapePlan,
     watch: &mut W,
 ) -> Result<(), AllocError> {
-    debug_assert!(!buffer.have_output());
-    debug_assert!(buffer.have_positions());
+    debug_assert!(!buffer.have_output() && buffer.have_positions());
     if plan.apply_kern {
         apply_kern(buffer, face, plan.kern_mask);
         watch.step(Step::Kerned, buffer)?;
@@ -105,21 +89,22 @@ fn kern_by_table<W: Watch>(
     Ok(())
 }
 
-/// Applies the lookups of `GPOS`.
+/// Applies lookups of `GPOS`.
 ///
 /// # Requires
 ///
-/// - `closed: buffer.old.have_output ≡ false`
-/// - `placed: IsSome buffer.old.positions`
+/// - `placed: HasPositions buffer.old`
 fn apply_positions<F: FontFunctions, W: Watch>(
     buffer: &mut hb_buffer_t,
     face: &Face,
     font: &F,
-    layout: &LayoutPlan,
+    lookups: &[PlannedLookup],
     watch: &mut W,
 ) -> Result<(), AllocError> {
-    debug_assert!(!buffer.have_output());
-    debug_assert!(buffer.have_positions());
+    debug_assert!(!buffer.have_output() && buffer.have_positions());
+    if lookups.is_empty() {
+        return Ok(());
+    }
     let points = FontPoints { font };
     let setting = Setting {
         list: &face.lookups.positions,
@@ -128,7 +113,7 @@ fn apply_positions<F: FontFunctions, W: Watch>(
     };
     let mut search = Search::new(budget_of(buffer));
     let glyphs = Digest::of_glyphs(buffer.info());
-    for planned in &layout.gpos_lookups {
+    for planned in lookups {
         apply_planned(buffer, &setting, planned, &glyphs, &mut search, watch)?;
     }
     Ok(())
@@ -138,8 +123,7 @@ fn apply_positions<F: FontFunctions, W: Watch>(
 ///
 /// # Requires
 ///
-/// - `closed: buffer.old.have_output ≡ false`
-/// - `placed: IsSome buffer.old.positions`
+/// - `placed: HasPositions buffer.old`
 fn apply_planned<F: FontFunctions, W: Watch>(
     buffer: &mut hb_buffer_t,
     setting: &Setting<FontPoints<F>>,
@@ -148,8 +132,7 @@ fn apply_planned<F: FontFunctions, W: Watch>(
     search: &mut Search,
     watch: &mut W,
 ) -> Result<(), AllocError> {
-    debug_assert!(!buffer.have_output());
-    debug_assert!(buffer.have_positions());
+    debug_assert!(!buffer.have_output() && buffer.have_positions());
     if !setting.list.may_apply(planned.index, glyphs) {
         return Ok(());
     }
@@ -162,11 +145,9 @@ fn apply_planned<F: FontFunctions, W: Watch>(
 ///
 /// # Requires
 ///
-/// - `closed: buffer.old.have_output ≡ false`
-/// - `placed: IsSome buffer.old.positions`
+/// - `placed: HasPositions buffer.old`
 fn apply_kern(buffer: &mut hb_buffer_t, face: &Face, mask: u32) {
-    debug_assert!(!buffer.have_output());
-    debug_assert!(buffer.have_positions());
+    debug_assert!(!buffer.have_output() && buffer.have_positions());
     let options = LookupOptions {
         mask,
         auto_zwnj: true,

@@ -70,8 +70,7 @@ fn adjusts_marks(buffer: &hb_buffer_t, plan: &OtShapePlan) -> bool {
 ///
 /// # Requires
 ///
-/// - `closed: buffer.old.have_output ≡ false`
-/// - `placed: IsSome buffer.old.positions`
+/// - `placed: HasPositions buffer.old`
 fn finish_positions<F: FontFunctions>(
     buffer: &mut hb_buffer_t,
     face: &Face,
@@ -79,8 +78,7 @@ fn finish_positions<F: FontFunctions>(
     plan: &OtShapePlan,
     direction: Direction,
 ) -> Result<(), AllocError> {
-    debug_assert!(!buffer.have_output());
-    debug_assert!(buffer.have_positions());
+    debug_assert!(!buffer.have_output() && buffer.have_positions());
     let adjusts = adjusts_marks(buffer, plan);
     zero_width_default_ignorables(buffer);
     position_finish_offsets(buffer);
@@ -94,11 +92,9 @@ fn finish_positions<F: FontFunctions>(
 ///
 /// # Requires
 ///
-/// - `closed: buffer.old.have_output ≡ false`
-/// - `placed: IsSome buffer.old.positions`
+/// - `placed: HasPositions buffer.old`
 fn zero_deleted(buffer: &mut hb_buffer_t, plan: &TextPlan) {
-    debug_assert!(!buffer.have_output());
-    debug_assert!(buffer.have_positions());
+    debug_assert!(!buffer.have_output() && buffer.have_positions());
     if plan.chain_flags.is_some() {
         zero_width_deleted_glyphs(buffer);
     }
@@ -108,11 +104,9 @@ fn zero_deleted(buffer: &mut hb_buffer_t, plan: &TextPlan) {
 ///
 /// # Requires
 ///
-/// - `closed: buffer.old.have_output ≡ false`
-/// - `placed: IsSome buffer.old.positions`
+/// - `placed: HasPositions buffer.old`
 fn zero_marks(buffer: &mut hb_buffer_t, zeroes: bool, adjusts: bool) {
-    debug_assert!(!buffer.have_output());
-    debug_assert!(buffer.have_positions());
+    debug_assert!(!buffer.have_output() && buffer.have_positions());
     if zeroes {
         zero_mark_widths(buffer, adjusts);
     }

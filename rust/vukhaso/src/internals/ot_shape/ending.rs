@@ -18,8 +18,7 @@ use crate::script_shapers::ScriptPlan;
 ///
 /// # Requires
 ///
-/// - `closed: buffer.old.have_output ≡ false`
-/// - `placed: IsSome buffer.old.positions`
+/// - `placed: HasPositions buffer.old`
 ///
 /// # Errors
 ///
@@ -30,8 +29,7 @@ pub(crate) fn finish_glyphs<F: FontFunctions>(
     font: &F,
     plan: &TextPlan,
 ) -> Result<bool, AllocError> {
-    debug_assert!(!buffer.have_output());
-    debug_assert!(buffer.have_positions());
+    debug_assert!(!buffer.have_output() && buffer.have_positions());
     hide_glyphs(buffer, font, plan);
     if !stretch_marks(buffer, face, font, &plan.script)? {
         return Ok(false);
@@ -44,11 +42,9 @@ pub(crate) fn finish_glyphs<F: FontFunctions>(
 ///
 /// # Requires
 ///
-/// - `closed: buffer.old.have_output ≡ false`
-/// - `placed: IsSome buffer.old.positions`
+/// - `placed: HasPositions buffer.old`
 fn end_flags(buffer: &mut hb_buffer_t) {
-    debug_assert!(!buffer.have_output());
-    debug_assert!(buffer.have_positions());
+    debug_assert!(!buffer.have_output() && buffer.have_positions());
     mark_given_up(buffer);
     propagate_flags(buffer);
 }
@@ -57,11 +53,9 @@ fn end_flags(buffer: &mut hb_buffer_t) {
 ///
 /// # Requires
 ///
-/// - `closed: buffer.old.have_output ≡ false`
-/// - `placed: IsSome buffer.old.positions`
+/// - `placed: HasPositions buffer.old`
 fn hide_glyphs<F: FontFunctions>(buffer: &mut hb_buffer_t, font: &F, plan: &TextPlan) {
-    debug_assert!(!buffer.have_output());
-    debug_assert!(buffer.have_positions());
+    debug_assert!(!buffer.have_output() && buffer.have_positions());
     remove_deleted(buffer, plan);
     hide_unseen(buffer, font);
 }
@@ -70,11 +64,9 @@ fn hide_glyphs<F: FontFunctions>(buffer: &mut hb_buffer_t, font: &F, plan: &Text
 ///
 /// # Requires
 ///
-/// - `closed: buffer.old.have_output ≡ false`
-/// - `placed: IsSome buffer.old.positions`
+/// - `placed: HasPositions buffer.old`
 fn hide_unseen<F: FontFunctions>(buffer: &mut hb_buffer_t, font: &F) {
-    debug_assert!(!buffer.have_output());
-    debug_assert!(buffer.have_positions());
+    debug_assert!(!buffer.have_output() && buffer.have_positions());
     show_variation_selectors(buffer);
     hide_ignorables(buffer, font);
 }
@@ -83,8 +75,7 @@ fn hide_unseen<F: FontFunctions>(buffer: &mut hb_buffer_t, font: &F) {
 ///
 /// # Requires
 ///
-/// - `closed: buffer.old.have_output ≡ false`
-/// - `placed: IsSome buffer.old.positions`
+/// - `placed: HasPositions buffer.old`
 ///
 /// # Errors
 ///
@@ -95,8 +86,7 @@ fn stretch_marks<F: FontFunctions>(
     font: &F,
     script: &ScriptPlan,
 ) -> Result<bool, AllocError> {
-    debug_assert!(!buffer.have_output());
-    debug_assert!(buffer.have_positions());
+    debug_assert!(!buffer.have_output() && buffer.have_positions());
     script.postprocess_glyphs(buffer, &FaceGlyphs { face, font })
 }
 
@@ -105,11 +95,9 @@ fn stretch_marks<F: FontFunctions>(
 ///
 /// # Requires
 ///
-/// - `closed: buffer.old.have_output ≡ false`
-/// - `placed: IsSome buffer.old.positions`
+/// - `placed: HasPositions buffer.old`
 fn remove_deleted(buffer: &mut hb_buffer_t, plan: &TextPlan) {
-    debug_assert!(!buffer.have_output());
-    debug_assert!(buffer.have_positions());
+    debug_assert!(!buffer.have_output() && buffer.have_positions());
     if plan.chain_flags.is_some() && !plan.shape.apply_gpos {
         share_flags(buffer);
         remove_deleted_glyphs(buffer);

@@ -41,11 +41,7 @@ use crate::verification::ShapeError;
 /// # Proved
 ///
 /// ```text
-/// ensures placed { IfOk result HasPositions }
-/// ensures within { IfOk result (λ glyphs. length glyphs.input ≤ (enter text).max_len) }
-/// ensures direction { IfOk result (λ glyphs. glyphs.direction ≡ (guessed text).direction) }
-/// ensures clusters { IfOk result (ShapedClusters text) }
-/// ensures named { IfErr result (λ e. e ≢ ShapeError.OtherPlan) }
+/// ensures { Shapes (guessed text).direction text result }
 /// ```
 #[inline]
 pub fn shape(
@@ -65,11 +61,7 @@ pub fn shape(
 /// # Proved
 ///
 /// ```text
-/// ensures placed { IfOk result HasPositions }
-/// ensures within { IfOk result (λ glyphs. length glyphs.input ≤ (enter text).max_len) }
-/// ensures direction { IfOk result (λ glyphs. glyphs.direction ≡ (guessed text).direction) }
-/// ensures clusters { IfOk result (ShapedClusters text) }
-/// ensures named { IfErr result (λ e. e ≢ ShapeError.OtherPlan) }
+/// ensures { Shapes (guessed text).direction text result }
 /// ```
 #[inline]
 pub fn shape_watched<W: Watch>(
@@ -92,11 +84,7 @@ pub fn shape_watched<W: Watch>(
 /// # Proved
 ///
 /// ```text
-/// ensures placed { IfOk result HasPositions }
-/// ensures within { IfOk result (λ glyphs. length glyphs.input ≤ (enter text).max_len) }
-/// ensures direction { IfOk result (λ glyphs. glyphs.direction ≡ (guessed text).direction) }
-/// ensures clusters { IfOk result (ShapedClusters text) }
-/// ensures named { IfErr result (λ e. e ≢ ShapeError.OtherPlan) }
+/// ensures { Shapes (guessed text).direction text result }
 /// ```
 #[inline]
 pub fn shape_with_functions<F: FontFunctions>(
@@ -117,11 +105,7 @@ pub fn shape_with_functions<F: FontFunctions>(
 /// # Proved
 ///
 /// ```text
-/// ensures placed { IfOk result HasPositions }
-/// ensures within { IfOk result (λ glyphs. length glyphs.input ≤ (enter text).max_len) }
-/// ensures direction { IfOk result (λ glyphs. glyphs.direction ≡ (guessed text).direction) }
-/// ensures clusters { IfOk result (ShapedClusters text) }
-/// ensures named { IfErr result (λ e. e ≢ ShapeError.OtherPlan) }
+/// ensures { Shapes (guessed text).direction text result }
 /// ```
 #[inline]
 pub fn shape_with_functions_watched<F: FontFunctions, W: Watch>(
@@ -163,22 +147,33 @@ pub(crate) fn shape_by_plan<F: FontFunctions, W: Watch>(
 ///
 /// # Requires
 ///
-/// - `buffer.have_output ≡ false`
+/// - `text.have_output ≡ false`
 pub(crate) fn shape_planned<F: FontFunctions, W: Watch>(
     face: &Face,
     font: &F,
     plan: &TextPlan,
     features: &[Feature],
-    buffer: hb_buffer_t,
+    text: hb_buffer_t,
     watch: &mut W,
 ) -> Result<GlyphBuffer, ShapeError> {
-    debug_assert!(!buffer.have_output());
-    let mut buffer = buffer;
+    debug_assert!(!text.have_output());
+    let mut buffer = text;
     buffer.enter();
     if !shape_buffer(&mut buffer, face, font, plan, features, watch)? {
         return Err(ShapeError::TooLong);
     }
     Ok(GlyphBuffer::from_buffer(buffer))
+}
+
+/// How the text of a line is shaped.
+#[derive(Clone, Copy, Debug)]
+struct TextLine<'a> {
+    /// The plan of the text.
+    plan: &'a TextPlan,
+    /// The features that a user asked for.
+    features: &'a [Feature],
+    /// The way in which the line was said to run.
+    direction: Direction,
 }
 
 /// Shapes the text of a buffer.
@@ -201,14 +196,18 @@ fn shape_buffer<F: FontFunctions, W: Watch>(
     debug_assert!(!buffer.have_output());
     debug_assert!(buffer.out_len() == 0);
     let limit = buffer.max_len();
-    let direction = buffer.direction;
-    if !make_glyphs(buffer, face, font, plan, features, watch)? {
+    let line = TextLine {
+        plan,
+        features,
+        direction: buffer.direction,
+    };
+    if !make_glyphs(buffer, face, font, &line, watch)? {
         return Ok(false);
     }
     if buffer.len() > limit {
         return Ok(false);
     }
-    end_line(buffer, direction);
+    end_line(buffer, line.direction);
     watch.step(Step::Shaped, buffer)?;
     Ok(true)
 }
@@ -227,11 +226,12 @@ fn end_line(buffer: &mut hb_buffer_t, direction: Direction) {
     buffer.leave();
 }
 
-/// Makes glyphs of the characters of a buffer, with their positions.
+/// Makes glyphs of the characters of a line, with their positions.
 ///
 /// # Requires
 ///
-/// - `buffer.old.have_output ≡ false`
+/// - `closed: buffer.old.have_output ≡ false`
+/// - `direction: line.now.direction ≡ buffer.old.direction`
 ///
 /// # Errors
 ///
@@ -240,26 +240,19 @@ fn make_glyphs<F: FontFunctions, W: Watch>(
     buffer: &mut hb_buffer_t,
     face: &Face,
     font: &F,
-    plan: &TextPlan,
-    features: &[Feature],
+    line: &TextLine<'_>,
     watch: &mut W,
 ) -> Result<bool, AllocError> {
     debug_assert!(!buffer.have_output());
-    let direction = buffer.direction;
-    if !begin_characters(buffer, font, plan)? {
+    if !begin_characters(buffer, font, line.plan)? {
         return Ok(false);
     }
     let is_turned = ensure_native_direction(buffer);
-    let line = TextLine {
-        plan,
-        features,
-        direction,
-    };
-    if !shape_native(buffer, face, font, line, watch)? {
+    if !shape_native(buffer, face, font, *line, watch)? {
         return Ok(false);
     }
-    reverse_if(buffer, is_against(direction.is_forward(), is_turned));
-    finish_glyphs(buffer, face, font, plan)
+    reverse_if(buffer, is_against(line.direction.is_forward(), is_turned));
+    finish_glyphs(buffer, face, font, line.plan)
 }
 
 /// Whether the glyphs stand against the line: it runs forward and the text was turned, or it runs
@@ -280,17 +273,6 @@ fn reverse_if(buffer: &mut hb_buffer_t, is_against: bool) {
     if is_against {
         buffer.reverse();
     }
-}
-
-/// How the text of a line is shaped.
-#[derive(Clone, Copy, Debug)]
-struct TextLine<'a> {
-    /// The plan of the text.
-    plan: &'a TextPlan,
-    /// The features that a user asked for.
-    features: &'a [Feature],
-    /// The way in which the line was said to run.
-    direction: Direction,
 }
 
 /// Makes glyphs of characters that stand in the direction of their script.

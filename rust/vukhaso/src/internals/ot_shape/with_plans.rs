@@ -20,10 +20,7 @@ use crate::verification::ShapeError;
 /// # Proved
 ///
 /// ```text
-/// ensures placed { IfOk result HasPositions }
-/// ensures within { IfOk result (λ glyphs. length glyphs.input ≤ (enter text).max_len) }
-/// ensures direction { IfOk result (λ glyphs. glyphs.direction ≡ (guessed text).direction) }
-/// ensures clusters { IfOk result (ShapedClusters text) }
+/// ensures shapes { IfOk result (AreShaped (guessed text).direction text) }
 /// ensures own { IfOk result (λ _. IsFor plan.now face.now plan.now.texts.features (guessed text)) }
 /// ensures other { IsErrOf result ShapeError.OtherPlan
 ///     ↔ ¬ IsFor plan.now face.now plan.now.texts.features (guessed text) }
@@ -47,10 +44,7 @@ pub fn shape_with_plan(
 /// # Proved
 ///
 /// ```text
-/// ensures placed { IfOk result HasPositions }
-/// ensures within { IfOk result (λ glyphs. length glyphs.input ≤ (enter text).max_len) }
-/// ensures direction { IfOk result (λ glyphs. glyphs.direction ≡ (guessed text).direction) }
-/// ensures clusters { IfOk result (ShapedClusters text) }
+/// ensures shapes { IfOk result (AreShaped (guessed text).direction text) }
 /// ensures own { IfOk result (λ _. IsFor plan.now face.now features.now (guessed text)) }
 /// ensures other { IsErrOf result ShapeError.OtherPlan
 ///     ↔ ¬ IsFor plan.now face.now features.now (guessed text) }
@@ -84,13 +78,7 @@ pub fn shape_with_plan_watched<W: Watch>(
 /// # Proved
 ///
 /// ```text
-/// ensures placed { IfOk result HasPositions }
-/// ensures within { IfOk result (λ glyphs. length glyphs.input ≤ (enter text).max_len) }
-/// ensures direction { IfOk result (λ glyphs. glyphs.direction ≡ (guessed text).direction) }
-/// ensures clusters { IfOk result (ShapedClusters text) }
-/// ensures planned { IfOk result (λ _. Any
-///     (λ plan. IsPlanOf plan face.now features.now (guessed text)) kept.new) }
-/// ensures named { IfErr result (λ e. e ≢ ShapeError.OtherPlan) }
+/// ensures { ShapesByKept face.now features.now kept.new text result }
 /// ```
 #[inline]
 pub fn shape_with_kept_plans(
@@ -112,13 +100,7 @@ pub fn shape_with_kept_plans(
 /// # Proved
 ///
 /// ```text
-/// ensures placed { IfOk result HasPositions }
-/// ensures within { IfOk result (λ glyphs. length glyphs.input ≤ (enter text).max_len) }
-/// ensures direction { IfOk result (λ glyphs. glyphs.direction ≡ (guessed text).direction) }
-/// ensures clusters { IfOk result (ShapedClusters text) }
-/// ensures planned { IfOk result (λ _. Any
-///     (λ plan. IsPlanOf plan face.now features.now (guessed text)) kept.new) }
-/// ensures named { IfErr result (λ e. e ≢ ShapeError.OtherPlan) }
+/// ensures { ShapesByKept face.now features.now kept.new text result }
 /// ```
 #[inline]
 pub fn shape_with_functions_and_plans<F: FontFunctions>(

@@ -14,6 +14,7 @@ use crate::ot_lookups::lookup_list::{Lookup, LookupList};
 use crate::ot_lookups::lookup_props::covered_index;
 use crate::ot_lookups::sets::set_at;
 use crate::ot_lookups::subtable::Subtable;
+use crate::ot_lookups::subtable_kind::{SingleFormat, SubtableKind};
 use crate::ot_substitution::glyph_table::Glyphs;
 
 /// The value of a feature that stands for any of its alternates, where it is `rand` (HarfBuzz, `HB_OT_MAP_MAX_VALUE`).
@@ -118,34 +119,40 @@ fn edit_of<'a>(
 ) -> Option<Edit<'a>> {
     let glyph = &ctx.input[0];
     let index = covered_index(&subtable.coverage, glyph.glyph_id)?;
-    match subtable.lookup_type {
-        1 => Some(Edit::Replace(single(subtable, glyph.glyph_id, index)?)),
-        2 => Some(multiple(subtable.table, index)),
-        3 => alternate(subtable.table, index, glyph.mask, options),
-        4 => ligature_by(subtable, index, ctx, search),
-        5 => Some(Edit::Apply(fitting_rule(
-            list, subtable, index, false, ctx, search,
+    match subtable.kind {
+        SubtableKind::SingleSubstitution(format) => Some(Edit::Replace(single(
+            format,
+            subtable.table,
+            glyph.glyph_id,
+            index,
         )?)),
-        6 => Some(Edit::Apply(fitting_rule(
-            list, subtable, index, true, ctx, search,
-        )?)),
-        8 if !is_nested => reverse(list, subtable, index, ctx, search),
+        SubtableKind::MultipleSubstitution => Some(multiple(subtable.table, index)),
+        SubtableKind::AlternateSubstitution => {
+            alternate(subtable.table, index, glyph.mask, options)
+        }
+        SubtableKind::LigatureSubstitution => ligature_by(subtable, index, ctx, search),
+        SubtableKind::Context(_) | SubtableKind::ChainedContext(_) => Some(Edit::Apply(
+            fitting_rule(list, subtable, index, ctx, search)?,
+        )),
+        SubtableKind::ReverseSubstitution if !is_nested => {
+            reverse(list, subtable, index, ctx, search)
+        }
         _ => None,
     }
 }
 
 /// The single substitution of a glyph with this coverage index.
-fn single(subtable: &Subtable, glyph: u32, index: u32) -> Option<u16> {
-    match subtable.format {
-        1 => {
-            let delta = u16_at(subtable.table, 4)?;
+fn single(format: SingleFormat, table: &[u8], glyph: u32, index: u32) -> Option<u16> {
+    match format {
+        SingleFormat::Delta => {
+            let delta = u16_at(table, 4)?;
             let low = (glyph % 65536) as u16;
             Some(low.wrapping_add(delta))
         }
-        2 if index < u32::from(u16_at(subtable.table, 4)?) => {
-            u16_at(subtable.table, 6 + 2 * index as usize)
+        SingleFormat::Glyphs if index < u32::from(u16_at(table, 4)?) => {
+            u16_at(table, 6 + 2 * index as usize)
         }
-        _ => None,
+        SingleFormat::Glyphs => None,
     }
 }
 

@@ -11,6 +11,18 @@ use crate::ot_lookups::lookup_list::{Lookup, LookupList};
 use crate::ot_lookups::lookup_props::covered_index;
 use crate::ot_lookups::sets;
 use crate::ot_lookups::subtable::Subtable;
+use crate::ot_lookups::subtable_kind::{ContextFormat, SubtableKind};
+
+/// What a lookup is asked for.
+#[derive(Clone, Copy, Debug)]
+struct Question<'a> {
+    /// The lookups of the font.
+    list: &'a LookupList<'a>,
+    /// The glyphs, one after the other.
+    glyphs: &'a [u32],
+    /// Whether a rule that asks for glyphs before them or after them is none.
+    wants_no_context: bool,
+}
 
 /// Whether a lookup has a rule for just these glyphs, one after the other (HarfBuzz,
 /// `hb_ot_layout_lookup_would_substitute`). Where `wants_no_context` holds, a rule that asks for glyphs
@@ -47,11 +59,16 @@ pub fn would_substitute<'a>(
     {
         return false;
     }
+    let question = Question {
+        list,
+        glyphs,
+        wants_no_context,
+    };
     for subtable in subtables {
         if !budget.pay(1) {
             return false;
         }
-        if subtable_would(list, subtable, glyphs, wants_no_context, budget) {
+        if subtable_would(subtable, &question, budget) {
             return true;
         }
     }
@@ -62,22 +79,20 @@ pub fn would_substitute<'a>(
 ///
 /// # Requires
 ///
-/// - `0 < length glyphs.now`
-fn subtable_would<'a>(
-    list: &'a LookupList<'a>,
-    subtable: &Subtable<'a>,
-    glyphs: &[u32],
-    wants_no_context: bool,
-    budget: &mut Budget,
-) -> bool {
-    debug_assert!(!glyphs.is_empty());
-    match subtable.lookup_type {
-        1 | 2 | 3 | 8 => {
+/// - `0 < length question.now.glyphs.now`
+fn subtable_would(subtable: &Subtable, question: &Question, budget: &mut Budget) -> bool {
+    let glyphs = question.glyphs;
+    match subtable.kind {
+        SubtableKind::SingleSubstitution(_)
+        | SubtableKind::MultipleSubstitution
+        | SubtableKind::AlternateSubstitution
+        | SubtableKind::ReverseSubstitution => {
             glyphs.len() == 1 && covered_index(&subtable.coverage, glyphs[0]).is_some()
         }
-        4 => ligature_would(subtable, glyphs, budget),
-        5 => context_would(list, subtable, false, glyphs, false, budget),
-        6 => context_would(list, subtable, true, glyphs, wants_no_context, budget),
+        SubtableKind::LigatureSubstitution => ligature_would(subtable, glyphs, budget),
+        SubtableKind::Context(_) | SubtableKind::ChainedContext(_) => {
+            context_would(subtable, question, budget)
+        }
         _ => false,
     }
 }
@@ -131,36 +146,20 @@ fn has_other_second(ligature: &[u8], glyphs: &[u32]) -> bool {
 ///
 /// # Requires
 ///
-/// - `0 < length glyphs.now`
-fn context_would<'a>(
-    list: &'a LookupList<'a>,
-    subtable: &Subtable<'a>,
-    is_chained: bool,
-    glyphs: &[u32],
-    wants_no_context: bool,
-    budget: &mut Budget,
-) -> bool {
-    debug_assert!(!glyphs.is_empty());
-    let (set, match_functions) = match subtable.format {
-        1 => (
-            set_of_glyph(subtable, glyphs[0]),
+/// - `0 < length question.now.glyphs.now`
+fn context_would(subtable: &Subtable, question: &Question, budget: &mut Budget) -> bool {
+    let first = question.glyphs[0];
+    let (set, match_functions) = match subtable.kind.as_context() {
+        Some(ContextFormat::Glyphs) => (
+            set_of_glyph(subtable, first),
             same_match_function(MatchFunction::Glyphs),
         ),
-        2 => (
-            set_of_class(subtable, is_chained, glyphs[0]),
-            class_meanings(subtable),
-        ),
-        3 => return coverages_would(list, subtable, is_chained, glyphs, wants_no_context),
-        _ => return false,
+        Some(ContextFormat::Classes) => (set_of_class(subtable, first), class_meanings(subtable)),
+        Some(ContextFormat::Coverages) => return coverages_would(subtable, question),
+        None => return false,
     };
-    set_would(
-        set,
-        &match_functions,
-        is_chained,
-        glyphs,
-        wants_no_context,
-        budget,
-    )
+    let is_chained = subtable.kind.is_chained();
+    set_would(set, &match_functions, is_chained, question, budget)
 }
 
 /// The set of rules of a context of glyphs that has those that begin with this glyph.
@@ -170,23 +169,17 @@ fn set_of_glyph<'a>(subtable: &Subtable<'a>, first: u32) -> Option<&'a [u8]> {
 }
 
 /// The set of rules of a context of classes that has those that begin with the class of this glyph.
-fn set_of_class<'a>(subtable: &Subtable<'a>, is_chained: bool, first: u32) -> Option<&'a [u8]> {
+fn set_of_class<'a>(subtable: &Subtable<'a>, first: u32) -> Option<&'a [u8]> {
     let class = class_of(&subtable.classes, first);
-    let at = if is_chained { 10 } else { 6 };
+    let at = if subtable.kind.is_chained() { 10 } else { 6 };
     set_at(subtable.table, at, u32::from(class))
 }
 
 /// Whether the rule of a context of coverages is for these glyphs.
-fn coverages_would<'a>(
-    list: &'a LookupList<'a>,
-    subtable: &Subtable<'a>,
-    is_chained: bool,
-    glyphs: &[u32],
-    wants_no_context: bool,
-) -> bool {
-    let coverages = list.coverages_from(subtable, 0);
-    coverage_rule(subtable.table, coverages, is_chained)
-        .is_some_and(|rule| is_for(&rule, glyphs, wants_no_context))
+fn coverages_would(subtable: &Subtable, question: &Question) -> bool {
+    let coverages = question.list.coverages_from(subtable, 0);
+    coverage_rule(subtable.table, coverages, subtable.kind.is_chained())
+        .is_some_and(|rule| is_for(&rule, question))
 }
 
 /// Whether a set has a rule for these glyphs.
@@ -194,8 +187,7 @@ fn set_would<'a>(
     set: Option<&'a [u8]>,
     match_functions: &MatchFunctions<'a>,
     is_chained: bool,
-    glyphs: &[u32],
-    wants_no_context: bool,
+    question: &Question,
     budget: &mut Budget,
 ) -> bool {
     let Some(set) = set else {
@@ -207,7 +199,7 @@ fn set_would<'a>(
         }
         if let Some(table) = table_at_16(set, 2 + 2 * number) {
             if let Some(rule) = rule_in(table, match_functions, is_chained) {
-                if is_for(&rule, glyphs, wants_no_context) {
+                if is_for(&rule, question) {
                     return true;
                 }
             }
@@ -216,9 +208,10 @@ fn set_would<'a>(
     false
 }
 
-/// Whether the input of a rule is these glyphs.
-fn is_for(rule: &Rule, glyphs: &[u32], wants_no_context: bool) -> bool {
-    if wants_no_context && (rule.backtrack.count != 0 || rule.lookahead.count != 0) {
+/// Whether the input of a rule is just the glyphs.
+fn is_for(rule: &Rule, question: &Question) -> bool {
+    let glyphs = question.glyphs;
+    if question.wants_no_context && (rule.backtrack.count != 0 || rule.lookahead.count != 0) {
         return false;
     }
     if usize::from(rule.input.count) + 1 != glyphs.len() {

@@ -58,7 +58,7 @@ fn order_syllable(
     debug_assert!(!buffer.have_output());
     let base = find_base(buffer, range, plan, virama);
     let place = move_matras(buffer, range, base.place, plan);
-    let place = move_reph(buffer, range, place, plan);
+    let place = move_reph(buffer, range, place, plan.configuration.reph_position);
     move_pref(buffer, range, &FinalBase { place, ..base }, plan);
     mark_start_of_word(buffer, range.start, plan.masks.init);
 }

@@ -124,17 +124,15 @@ impl IndicPlan {
     /// # Proved
     ///
     /// ```text
-    /// ensures closed { IfOk result (λ done. done ≡ true → buffer.new.have_output ≡ false) }
-    /// ensures refusal { IsRefusal false result buffer.new }
-    /// ensures keeps { KeepsNumbers buffer.old buffer.new }
+    /// ensures { Reorders result buffer.old buffer.new }
     /// ```
     #[inline]
     pub fn pause<F: FontForms>(
         &self,
+        pause: Pause,
 
         buffer: &mut hb_buffer_t,
         font: &mut F,
-        pause: Pause,
     ) -> Result<bool, AllocError> {
         debug_assert!(!buffer.have_output());
         match pause {

@@ -9,12 +9,12 @@ use crate::script_indic::base::{Base, find_base};
 use crate::script_indic::initial_masks::{mask_pref, set_masks};
 use crate::script_indic::initial_order::set_positions;
 use crate::script_indic::plan::{BROKEN, ConsonantForms, IndicPlan};
-use crate::script_indic::sorting::sort_syllable;
 use crate::script_syllables::clusters::merge;
 use crate::script_syllables::dotted_circle::{CircleKind, insert_dotted_circles};
 use crate::script_syllables::font::{FontForms, FormFeature};
 use crate::script_syllables::item::{is_halant, is_one, position, set_position};
 use crate::script_syllables::moves::move_first;
+use crate::script_syllables::sorting::sort_syllable;
 use crate::script_syllables::syllables::{kind_at, syllable, within};
 use crate::script_syllables::{Category, Position};
 use core::ops::Range;
@@ -158,7 +158,7 @@ fn order_syllable<F: FontForms>(
         font.would_substitute(FormFeature::Rphf, glyphs)
     });
     place_items(buffer, range, &base, plan);
-    let base = sort_syllable(buffer, range, plan)?;
+    let base = sort_syllable(buffer, range, plan.is_old_spec)?;
     mask_items(buffer, range, base, plan, font);
     Ok(())
 }

@@ -5,7 +5,6 @@
 use crate::buffer::{hb_buffer_t, hb_glyph_info_t};
 use crate::script_indic::configuration::RephPosition;
 use crate::script_indic::item::is_matra;
-use crate::script_indic::plan::IndicPlan;
 use crate::script_syllables::clusters::merge;
 use crate::script_syllables::item::{category, is_halant, is_joiner, is_whole_ligature, position};
 use crate::script_syllables::moves::move_first;
@@ -13,7 +12,7 @@ use crate::script_syllables::syllables::syllable;
 use crate::script_syllables::{Category, Position};
 use core::ops::Range;
 
-/// Moves the reph of a syllable. Where the base is then.
+/// Moves the reph of a syllable to where it is wanted. Where the base is then.
 ///
 /// # Requires
 ///
@@ -22,14 +21,14 @@ pub(crate) fn move_reph(
     buffer: &mut hb_buffer_t,
     range: &Range<usize>,
     base: usize,
-    plan: &IndicPlan,
+    wanted: RephPosition,
 ) -> usize {
     debug_assert!(!buffer.have_output());
     let items = syllable(buffer.info(), range);
     if items.len() < 2 || !begins_with_reph(items) {
         return base;
     }
-    let place = new_place(items, base, plan.configuration.reph_position);
+    let place = new_place(items, base, wanted);
     let end = range.start.saturating_add(place).saturating_add(1);
     merge(buffer, range.start, end);
     move_first(buffer, range.start, end);

@@ -87,8 +87,7 @@ pub fn presentation_form(a: char, b: char) -> Option<char> {
 ///
 /// ```text
 /// ensures is { hebrew.IsReordered start end buffer.old buffer.new }
-/// ensures closed { buffer.new.have_output ≡ false }
-/// ensures keeps { KeepsClusters buffer.old buffer.new }
+/// ensures stays { StaysClosed buffer.old buffer.new }
 /// ```
 #[inline]
 pub fn reorder_marks(buffer: &mut hb_buffer_t, start: usize, end: usize) {

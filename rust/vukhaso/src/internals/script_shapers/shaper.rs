@@ -224,8 +224,7 @@ impl ScriptShaper {
     /// # Proved
     ///
     /// ```text
-    /// ensures closed { buffer.new.have_output ≡ false }
-    /// ensures keeps { KeepsClusters buffer.old buffer.new }
+    /// ensures { StaysClosed buffer.old buffer.new }
     /// ```
     #[inline]
     pub fn reorder_marks(self, buffer: &mut hb_buffer_t, start: usize, end: usize) {
@@ -333,9 +332,7 @@ impl ScriptPlan {
     /// # Proved
     ///
     /// ```text
-    /// ensures closed { IfOk result (λ done. done ≡ true → buffer.new.have_output ≡ false) }
-    /// ensures refusal { IsRefusal false result buffer.new }
-    /// ensures keeps { KeepsClusters buffer.old buffer.new }
+    /// ensures { Closes result buffer.old buffer.new }
     /// ```
     #[inline]
     pub fn preprocess_text<F: FontGlyphs>(
@@ -369,8 +366,7 @@ impl ScriptPlan {
     /// # Proved
     ///
     /// ```text
-    /// ensures closed { buffer.new.have_output ≡ false }
-    /// ensures keeps { KeepsClusters buffer.old buffer.new }
+    /// ensures { StaysClosed buffer.old buffer.new }
     /// ```
     #[inline]
     pub fn setup_masks(&self, buffer: &mut hb_buffer_t) {
@@ -407,8 +403,7 @@ impl ScriptPlan {
     /// # Proved
     ///
     /// ```text
-    /// ensures closed { buffer.new.have_output ≡ false }
-    /// ensures keeps { KeepsClusters buffer.old buffer.new }
+    /// ensures { StaysClosed buffer.old buffer.new }
     /// ```
     #[inline]
     pub fn record_stch(&self, buffer: &mut hb_buffer_t) {
@@ -432,10 +427,8 @@ impl ScriptPlan {
     /// # Proved
     ///
     /// ```text
-    /// ensures closed { IfOk result (λ done. done ≡ true → buffer.new.have_output ≡ false) }
     /// ensures placed { IfOk result (λ done. done ≡ true → IsSome buffer.new.positions) }
-    /// ensures refusal { IsRefusal false result buffer.new }
-    /// ensures keeps { KeepsClusters buffer.old buffer.new }
+    /// ensures closes { Closes result buffer.old buffer.new }
     /// ```
     #[inline]
     pub fn postprocess_glyphs<F: FontGlyphs>(

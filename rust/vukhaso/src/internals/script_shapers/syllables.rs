@@ -36,8 +36,7 @@ impl SyllablePlan {
     /// # Proved
     ///
     /// ```text
-    /// ensures closed { buffer.new.have_output ≡ false }
-    /// ensures keeps { KeepsClusters buffer.old buffer.new }
+    /// ensures { StaysClosed buffer.old buffer.new }
     /// ```
     #[inline]
     pub fn setup_masks(&self, buffer: &mut hb_buffer_t) {
@@ -64,9 +63,7 @@ impl SyllablePlan {
     /// # Proved
     ///
     /// ```text
-    /// ensures closed { IfOk result (λ done. done ≡ true → buffer.new.have_output ≡ false) }
-    /// ensures refusal { IsRefusal false result buffer.new }
-    /// ensures keeps { KeepsNumbers buffer.old buffer.new }
+    /// ensures { Reorders result buffer.old buffer.new }
     /// ```
     #[inline]
     pub fn pause<F: FontForms>(
@@ -78,12 +75,12 @@ impl SyllablePlan {
     ) -> Result<bool, AllocError> {
         debug_assert!(!buffer.have_output());
         match self {
-            SyllablePlan::Indic(plan) => plan.pause(buffer, font, pause),
+            SyllablePlan::Indic(plan) => plan.pause(pause, buffer, font),
             SyllablePlan::Khmer(plan) => crate::script_universal::pause(plan, buffer, font, pause),
             SyllablePlan::Myanmar => {
                 crate::script_universal::pause(&MyanmarShaper, buffer, font, pause)
             }
-            SyllablePlan::Universal(plan) => plan.pause(buffer, font, pause),
+            SyllablePlan::Universal(plan) => plan.pause(pause, buffer, font),
             SyllablePlan::None => Ok(true),
         }
     }

@@ -13,8 +13,8 @@ use crate::buffer::hb_buffer_t;
 /// # Proved
 ///
 /// ```text
-/// ensures closed { buffer.new.have_output ≡ false }
-/// ensures keeps { KeepsClusters buffer.old buffer.new }
+/// ensures is { buffer.new ≡ merged start end buffer.old }
+/// ensures stays { StaysClosed buffer.old buffer.new }
 /// ```
 #[inline]
 pub fn merge(buffer: &mut hb_buffer_t, start: usize, end: usize) {

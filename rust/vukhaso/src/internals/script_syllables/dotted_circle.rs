@@ -99,8 +99,7 @@ fn put_circles(buffer: &mut hb_buffer_t, circle: &Circle) -> Result<bool, AllocE
 ///
 /// # Requires
 ///
-/// - `opened: buffer.old.have_output ≡ true`
-/// - `glyph: 0 < length buffer.old.input`
+/// - `HasCurrent buffer.old`
 ///
 /// # Errors
 ///
@@ -110,8 +109,7 @@ fn read_next(
     circle: &Circle,
     last: u8,
 ) -> Result<Option<u8>, AllocError> {
-    debug_assert!(buffer.have_output());
-    debug_assert!(!buffer.info().is_empty());
+    debug_assert!(buffer.have_output() && !buffer.info().is_empty());
     if begins_broken(circle, last, buffer.cur(0)) {
         return read_broken(buffer, circle);
     }
@@ -125,11 +123,9 @@ fn read_next(
 ///
 /// # Requires
 ///
-/// - `opened: buffer.old.have_output ≡ true`
-/// - `glyph: 0 < length buffer.old.input`
+/// - `HasCurrent buffer.old`
 fn read_broken(buffer: &mut hb_buffer_t, circle: &Circle) -> Result<Option<u8>, AllocError> {
-    debug_assert!(buffer.have_output());
-    debug_assert!(!buffer.info().is_empty());
+    debug_assert!(buffer.have_output() && !buffer.info().is_empty());
     let syllable = buffer.cur(0).syllable();
     let rephs = reph_count(buffer.info(), syllable, circle.kind.repha);
     if !put_circle(buffer, circle, rephs)? {
@@ -172,12 +168,10 @@ fn is_reph(info: &hb_glyph_info_t, syllable: u8, repha: Option<u8>) -> bool {
 ///
 /// # Requires
 ///
-/// - `opened: buffer.old.have_output ≡ true`
-/// - `glyph: 0 < length buffer.old.input`
+/// - `current: HasCurrent buffer.old`
 /// - `rephs: rephs ≤ length buffer.old.input`
 fn put_circle(buffer: &mut hb_buffer_t, circle: &Circle, rephs: usize) -> Result<bool, AllocError> {
-    debug_assert!(buffer.have_output());
-    debug_assert!(!buffer.info().is_empty());
+    debug_assert!(buffer.have_output() && !buffer.info().is_empty());
     debug_assert!(rephs <= buffer.info().len());
     let info = circle_at(circle, buffer.cur(0));
     if !buffer.next_glyphs(rephs)? {

@@ -35,21 +35,26 @@ impl<'a> Grammar<'a> {
     /// there: a text is not read again for each of its items.
     pub(crate) fn first_syllable(&self, infos: &mut [hb_glyph_info_t]) -> Syllable {
         let found = self.longest(infos);
-        let passed = self.passed_count(infos.get(found.length..).unwrap_or(&[]));
         Syllable {
-            length: found.length.saturating_add(passed),
+            length: self.behind_passed(infos, found.length),
             ..found
+        }
+    }
+
+    /// The place behind the items that are passed over from a place on.
+    fn behind_passed(&self, infos: &[hb_glyph_info_t], start: usize) -> usize {
+        match infos.get(start..) {
+            Some(behind) => start + self.passed_count(behind),
+            None => start,
         }
     }
 
     /// How many of the first items are passed over.
     pub(crate) fn passed_count(&self, infos: &[hb_glyph_info_t]) -> usize {
-        if !self.passes_over {
-            return 0;
-        }
-        match infos.iter().position(|info| !is_passed_over(info)) {
-            Some(count) => count,
-            None => infos.len(),
+        if self.passes_over {
+            passed_items(infos)
+        } else {
+            0
         }
     }
 
@@ -78,4 +83,14 @@ impl<'a> Grammar<'a> {
         }
         found
     }
+}
+
+/// How many of the first items are marked.
+fn passed_items(infos: &[hb_glyph_info_t]) -> usize {
+    for place in 0..infos.len() {
+        if !is_passed_over(&infos[place]) {
+            return place;
+        }
+    }
+    infos.len()
 }

@@ -14,8 +14,7 @@ use crate::buffer::hb_buffer_t;
 ///
 /// ```text
 /// ensures is { buffer.new ≡ record buffer.old { input = first_behind start end buffer.old.input } }
-/// ensures closed { buffer.new.have_output ≡ false }
-/// ensures keeps { KeepsNumbers buffer.old buffer.new }
+/// ensures stays { NumbersStay buffer.old buffer.new }
 /// ```
 #[inline]
 pub fn move_first(buffer: &mut hb_buffer_t, start: usize, end: usize) {
@@ -33,8 +32,7 @@ pub fn move_first(buffer: &mut hb_buffer_t, start: usize, end: usize) {
 ///
 /// ```text
 /// ensures is { buffer.new ≡ record buffer.old { input = last_before start end count buffer.old.input } }
-/// ensures closed { buffer.new.have_output ≡ false }
-/// ensures keeps { KeepsNumbers buffer.old buffer.new }
+/// ensures stays { NumbersStay buffer.old buffer.new }
 /// ```
 #[inline]
 pub fn move_last(buffer: &mut hb_buffer_t, start: usize, end: usize, count: usize) {

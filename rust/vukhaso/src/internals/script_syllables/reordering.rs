@@ -19,8 +19,7 @@ pub trait SyllableOrder {
     /// # Proved
     ///
     /// ```text
-    /// ensures closed { buffer.new.have_output ≡ false }
-    /// ensures keeps { KeepsNumbers buffer.old buffer.new }
+    /// ensures { NumbersStay buffer.old buffer.new }
     /// ```
     fn reorder_syllable(&self, buffer: &mut hb_buffer_t, range: &Range<usize>);
 }
@@ -38,9 +37,7 @@ pub trait SyllableOrder {
 /// # Proved
 ///
 /// ```text
-/// ensures closed { IfOk result (λ done. done ≡ true → buffer.new.have_output ≡ false) }
-/// ensures refusal { IsRefusal false result buffer.new }
-/// ensures keeps { KeepsNumbers buffer.old buffer.new }
+/// ensures { Reorders result buffer.old buffer.new }
 /// ```
 #[inline]
 pub fn reorder<F: FontForms, O: SyllableOrder>(
@@ -66,8 +63,7 @@ pub fn reorder<F: FontForms, O: SyllableOrder>(
 /// # Proved
 ///
 /// ```text
-/// ensures closed { buffer.new.have_output ≡ false }
-/// ensures keeps { KeepsNumbers buffer.old buffer.new }
+/// ensures { NumbersStay buffer.old buffer.new }
 /// ```
 #[inline]
 pub fn reorder_syllables<O: SyllableOrder>(buffer: &mut hb_buffer_t, order: &O) {

@@ -20,8 +20,7 @@ pub(crate) const NO_KIND: u8 = 15;
 /// # Proved
 ///
 /// ```text
-/// ensures closed { buffer.new.have_output ≡ false }
-/// ensures keeps { KeepsClusters buffer.old buffer.new }
+/// ensures { StaysClosed buffer.old buffer.new }
 /// ```
 #[inline]
 pub fn find_syllables(buffer: &mut hb_buffer_t, grammar: &Grammar) {
@@ -124,6 +123,38 @@ fn cluster_end(infos: &[hb_glyph_info_t], place: usize) -> usize {
 pub fn syllable_end(infos: &[hb_glyph_info_t], start: usize) -> usize {
     debug_assert!(start < infos.len());
     group_end(infos, start, &|a, b| a.syllable() == b.syllable())
+}
+
+/// What is done with the items of a syllable.
+pub trait SyllableWork {
+    /// Does it with one.
+    ///
+    /// # Proved
+    ///
+    /// ```text
+    /// ensures { clusters syllable.new ≡ clusters syllable.old }
+    /// ```
+    fn work_on(&self, syllable: &mut [hb_glyph_info_t]);
+}
+
+/// Does it with each syllable of a list.
+///
+/// # Proved
+///
+/// ```text
+/// ensures { clusters infos.new ≡ clusters infos.old }
+/// ```
+#[inline]
+pub fn work_on_all<W: SyllableWork>(infos: &mut [hb_glyph_info_t], work: &W) {
+    let mut start = 0;
+    for _turn in 0..infos.len() {
+        if start >= infos.len() {
+            break;
+        }
+        let end = syllable_end(infos, start);
+        work.work_on(&mut infos[start..end]);
+        start = end;
+    }
 }
 
 /// The kind of the syllable that an item is in.

@@ -71,11 +71,9 @@ fn read_all(buffer: &mut hb_buffer_t) -> Result<bool, AllocError> {
 ///
 /// # Requires
 ///
-/// - `opened: buffer.old.have_output ≡ true`
-/// - `glyph: 0 < length buffer.old.input`
+/// - `HasCurrent buffer.old`
 fn read_next(buffer: &mut hb_buffer_t) -> Result<bool, AllocError> {
-    debug_assert!(buffer.have_output());
-    debug_assert!(!buffer.info().is_empty());
+    debug_assert!(buffer.have_output() && !buffer.info().is_empty());
     let Some(count) = sequence_length(buffer) else {
         return buffer.next_glyph();
     };

@@ -44,9 +44,7 @@ pub trait ReorderingShaper: SyllableOrder {
 /// # Proved
 ///
 /// ```text
-/// ensures closed { IfOk result (λ done. done ≡ true → buffer.new.have_output ≡ false) }
-/// ensures refusal { IsRefusal false result buffer.new }
-/// ensures keeps { KeepsNumbers buffer.old buffer.new }
+/// ensures { Reorders result buffer.old buffer.new }
 /// ```
 #[inline]
 pub fn pause<S: ReorderingShaper, F: FontForms>(

@@ -128,7 +128,6 @@ pub trait ShapesParts {
 /// ```text
 /// ensures { IfErr result (λ e. e ≢ ShapeError.OtherPlan) }
 /// ```
-#[inline]
 pub fn verify<S: ShapesParts>(
     shaping: &S,
     text: &Original,
@@ -144,10 +143,12 @@ pub fn verify<S: ShapesParts>(
     if !is_safe_to_break(shaping, text, glyphs)? {
         return Err(ShapeError::Unverified(VerifyError::UnsafeToBreak));
     }
-    if text.flags.contains(BufferFlags::PRODUCE_UNSAFE_TO_CONCAT)
-        && !is_safe_to_concat(shaping, text, glyphs)?
-    {
-        return Err(ShapeError::Unverified(VerifyError::UnsafeToConcat));
+    if text.flags.contains(BufferFlags::PRODUCE_UNSAFE_TO_CONCAT) {
+        let characters = text.characters.as_slice();
+        let cuts = cuts(characters, glyphs, glyph_flag::UNSAFE_TO_CONCAT)?;
+        if !is_safe_to_concat(shaping, text, cuts.as_slice(), glyphs)? {
+            return Err(ShapeError::Unverified(VerifyError::UnsafeToConcat));
+        }
     }
     Ok(())
 }
@@ -272,20 +273,16 @@ fn is_same_glyph(one: &hb_glyph_info_t, other: &hb_glyph_info_t) -> bool {
     one.glyph_id == other.glyph_id && one.cluster == other.cluster
 }
 
-/// Whether the parts of a text that is cut wherever this is safe have their glyphs also where every
-/// other part is left out: the glyphs of both halves, part by part, are those of the whole.
+/// Whether the parts of a text that is cut at these places have their glyphs also where every other
+/// part is left out: the glyphs of both halves, part by part, are those of the whole.
 fn is_safe_to_concat<S: ShapesParts>(
     shaping: &S,
     text: &Original,
+    cuts: &[usize],
     glyphs: InOrder<'_>,
 ) -> Result<bool, ShapeError> {
-    let cuts = cuts(
-        text.characters.as_slice(),
-        glyphs,
-        glyph_flag::UNSAFE_TO_CONCAT,
-    )?;
-    let even = shaped_half(shaping, text, cuts.as_slice(), 0)?;
-    let odd = shaped_half(shaping, text, cuts.as_slice(), 1)?;
+    let even = shaped_half(shaping, text, cuts, 0)?;
+    let odd = shaped_half(shaping, text, cuts, 1)?;
     let even = InOrder::of(&even, glyphs.is_forward);
     let odd = InOrder::of(&odd, glyphs.is_forward);
     Ok(are_interleaved(even, odd, glyphs))

@@ -27,13 +27,13 @@ pub fn render_with_ligature(
     feature: Feature,
     ligature: u32,
 ) -> Result<(GlyphBuffer, [Answer; 3]), RenderFault> {
+    let mut answers = [Answer::Outside; 3];
     let ids = [ligature];
     let calls = [
         Call::ClearOutput,
         Call::ReplaceGlyphs(2, 1, &ids),
         Call::Sync,
     ];
-    let mut answers = [Answer::Outside; 3];
     let glyphs = render(text, &[feature], &calls, &mut answers)?;
     Ok((glyphs, answers))
 }

@@ -260,14 +260,12 @@ fn ready_length(infos: &[hb_glyph_info_t], count: usize, short_circuit: bool) ->
 ///
 /// # Requires
 ///
-/// - `opened: buffer.old.have_output ≡ true`
-/// - `glyph: 0 < length buffer.old.input`
+/// - `HasCurrent buffer.old`
 fn decompose_current<F: FontFunctions>(
     buffer: &mut hb_buffer_t,
     decomposer: &Decomposer<F>,
 ) -> Result<bool, AllocError> {
-    debug_assert!(buffer.have_output());
-    debug_assert!(!buffer.info().is_empty());
+    debug_assert!(buffer.have_output() && !buffer.info().is_empty());
     let mut parts = Parts::new();
     if add_font_parts(&mut parts, decomposer, buffer.cur(0).glyph_id) {
         return put_parts(buffer, decomposer.font, &parts);
@@ -282,15 +280,13 @@ fn decompose_current<F: FontFunctions>(
 ///
 /// # Requires
 ///
-/// - `opened: buffer.old.have_output ≡ true`
-/// - `glyph: 0 < length buffer.old.input`
+/// - `HasCurrent buffer.old`
 fn put_parts<F: FontFunctions>(
     buffer: &mut hb_buffer_t,
     font: &F,
     parts: &[u32],
 ) -> Result<bool, AllocError> {
-    debug_assert!(buffer.have_output());
-    debug_assert!(!buffer.info().is_empty());
+    debug_assert!(buffer.have_output() && !buffer.info().is_empty());
     for part in parts.iter() {
         if !put_part(buffer, font, *part)? {
             return Ok(false);
@@ -304,15 +300,13 @@ fn put_parts<F: FontFunctions>(
 ///
 /// # Requires
 ///
-/// - `opened: buffer.old.have_output ≡ true`
-/// - `glyph: 0 < length buffer.old.input`
+/// - `HasCurrent buffer.old`
 fn put_part<F: FontFunctions>(
     buffer: &mut hb_buffer_t,
     font: &F,
     part: u32,
 ) -> Result<bool, AllocError> {
-    debug_assert!(buffer.have_output());
-    debug_assert!(!buffer.info().is_empty());
+    debug_assert!(buffer.have_output() && !buffer.info().is_empty());
     let glyph = font.nominal_glyph(part);
     set_current_glyph(buffer, glyph.map_or(0, |glyph| u32::from(glyph.0)));
     if !buffer.output_glyph(part)? {
@@ -326,11 +320,9 @@ fn put_part<F: FontFunctions>(
 ///
 /// # Requires
 ///
-/// - `opened: buffer.old.have_output ≡ true`
-/// - `glyph: 0 < length buffer.old.input`
+/// - `HasCurrent buffer.old`
 pub(crate) fn set_current_glyph(buffer: &mut hb_buffer_t, glyph: u32) {
-    debug_assert!(buffer.have_output());
-    debug_assert!(!buffer.info().is_empty());
+    debug_assert!(buffer.have_output() && !buffer.info().is_empty());
     set_glyph(buffer.cur_mut(0), glyph);
 }
 
@@ -365,11 +357,9 @@ fn set_last(infos: &mut [hb_glyph_info_t], scratch_flags: &mut u32) {
 ///
 /// # Requires
 ///
-/// - `opened: buffer.old.have_output ≡ true`
-/// - `glyph: 0 < length buffer.old.input`
+/// - `HasCurrent buffer.old`
 fn find_fallback<F: FontFunctions>(buffer: &mut hb_buffer_t, font: &F) {
-    debug_assert!(buffer.have_output());
-    debug_assert!(!buffer.info().is_empty());
+    debug_assert!(buffer.have_output() && !buffer.info().is_empty());
     let character = buffer.cur(0).glyph_id;
     if is_unicode_space(buffer.cur(0)) {
         find_space(buffer, font, character);
@@ -384,11 +374,9 @@ fn find_fallback<F: FontFunctions>(buffer: &mut hb_buffer_t, font: &F) {
 ///
 /// # Requires
 ///
-/// - `opened: buffer.old.have_output ≡ true`
-/// - `glyph: 0 < length buffer.old.input`
+/// - `HasCurrent buffer.old`
 fn find_space<F: FontFunctions>(buffer: &mut hb_buffer_t, font: &F, character: u32) {
-    debug_assert!(buffer.have_output());
-    debug_assert!(!buffer.info().is_empty());
+    debug_assert!(buffer.have_output() && !buffer.info().is_empty());
     let space = match char::from_u32(character) {
         Some(character) => character.space_fallback(),
         None => NOT_SPACE,
@@ -419,11 +407,9 @@ fn note_space(buffer: &mut hb_buffer_t) {
 ///
 /// # Requires
 ///
-/// - `opened: buffer.old.have_output ≡ true`
-/// - `glyph: 0 < length buffer.old.input`
+/// - `HasCurrent buffer.old`
 fn set_space(buffer: &mut hb_buffer_t, space: space_t, glyph: GlyphId) {
-    debug_assert!(buffer.have_output());
-    debug_assert!(!buffer.info().is_empty());
+    debug_assert!(buffer.have_output() && !buffer.info().is_empty());
     take_space(buffer.cur_mut(0), space, glyph);
 }
 

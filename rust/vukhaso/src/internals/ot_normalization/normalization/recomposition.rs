@@ -11,7 +11,6 @@ use crate::memory::AllocError;
 use crate::passes::normalization::next_turn;
 use crate::script_items::glyph_info::set_unicode_props;
 use crate::script_items::item::modified_combining_class;
-use crate::script_shapers::ScriptPlan;
 
 /// Composes marks with the last starter before them, unless a mark between blocks them. The first
 /// character of the text is a starter, whatever it is.
@@ -21,15 +20,13 @@ use crate::script_shapers::ScriptPlan;
 /// - `buffer.old.have_output ≡ false`
 pub(crate) fn recompose_all<F: FontFunctions>(
     buffer: &mut hb_buffer_t,
-    font: &F,
-    script: &ScriptPlan,
+    composing: &Composing<F>,
 ) -> Result<bool, AllocError> {
     debug_assert!(!buffer.have_output());
     if !buffer.successful() {
         return Ok(false);
     }
-    let composing = Composing::new(font, script);
-    if !has_pair(buffer.info(), &composing) {
+    if !has_pair(buffer.info(), composing) {
         return Ok(true);
     }
     // Read for what its contract says: the list is no longer than `max_len`.
@@ -37,7 +34,7 @@ pub(crate) fn recompose_all<F: FontFunctions>(
     buffer.clear_output();
     let mut starter = None;
     while buffer.lookahead_len() > 0 {
-        starter = recompose_next(buffer, &composing, starter);
+        starter = recompose_next(buffer, composing, starter);
     }
     buffer.sync()
 }
@@ -65,15 +62,12 @@ fn has_pair<F: FontFunctions>(infos: &[hb_glyph_info_t], composing: &Composing<F
 ///
 /// # Requires
 ///
-/// - `ready: IsReady buffer.old`
-/// - `some: 0 < length buffer.old.input`
-/// - `place: IsPlace starter buffer.old`
+/// - `IsAtTurn starter buffer.old`
 fn recompose_next<F: FontFunctions>(
     buffer: &mut hb_buffer_t,
     composing: &Composing<F>,
     starter: Option<usize>,
 ) -> Option<usize> {
-    debug_assert!(!buffer.info().is_empty());
     let starter = starter_or_first(buffer, starter);
     let count = buffer.out_len();
     let next = next_turn(buffer, composing, &KeptClasses, starter);

@@ -38,15 +38,13 @@ pub(crate) fn read_variations<F: FontFunctions>(
 ///
 /// # Requires
 ///
-/// - `opened: buffer.old.have_output ≡ true`
-/// - `glyph: 0 < length buffer.old.input`
+/// - `HasCurrent buffer.old`
 fn read_next<F: FontFunctions>(
     buffer: &mut hb_buffer_t,
     font: &F,
     end: usize,
 ) -> Result<bool, AllocError> {
-    debug_assert!(buffer.have_output());
-    debug_assert!(!buffer.info().is_empty());
+    debug_assert!(buffer.have_output() && !buffer.info().is_empty());
     if buffer.idx().saturating_add(1) >= end
         || buffer.lookahead_len() == 1
         || !is_variation_selector(buffer.cur(1).glyph_id)
@@ -106,11 +104,9 @@ fn keep_both(buffer: &mut hb_buffer_t) -> Result<bool, AllocError> {
 ///
 /// # Requires
 ///
-/// - `opened: buffer.old.have_output ≡ true`
-/// - `glyph: 0 < length buffer.old.input`
+/// - `HasCurrent buffer.old`
 fn note_selector(buffer: &mut hb_buffer_t, is_shown: bool) {
-    debug_assert!(buffer.have_output());
-    debug_assert!(!buffer.info().is_empty());
+    debug_assert!(buffer.have_output() && !buffer.info().is_empty());
     note(buffer.cur_mut(0), is_shown);
 }
 

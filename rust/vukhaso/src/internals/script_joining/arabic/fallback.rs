@@ -11,18 +11,13 @@ use crate::script_joining::arabic::lookup_bytes::{
 use crate::script_joining::arabic::presentation_rows::{
     LETTERS, LIGATURES_OF_MARKS, LIGATURES_OF_THREE, LIGATURES_OF_TWO,
 };
-use crate::script_joining::joining::form::ArabicAction;
+use crate::script_joining::joining::form::ArabicAction::{self, Fina, Init, Isol, Medi};
 
 /// The flag of a lookup that passes over marks.
 const IGNORE_MARKS: u16 = 8;
 
 /// The forms of letters, in the order of their lookups and of the columns of the rows.
-const FORMS: [ArabicAction; 4] = [
-    ArabicAction::Init,
-    ArabicAction::Medi,
-    ArabicAction::Fina,
-    ArabicAction::Isol,
-];
+const FORMS: [ArabicAction; 4] = [Init, Medi, Fina, Isol];
 
 /// Lookups that are made from the characters of a font.
 #[derive(Debug)]

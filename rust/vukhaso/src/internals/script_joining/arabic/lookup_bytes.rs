@@ -22,12 +22,18 @@ pub(crate) fn put(bytes: &mut Vec<u8>, number: usize) -> Result<(), AllocError> 
     Ok(())
 }
 
+/// Adds such numbers, one after the other.
+fn put_all(bytes: &mut Vec<u8>, numbers: &[usize]) -> Result<(), AllocError> {
+    for number in numbers {
+        put(bytes, *number)?;
+    }
+    Ok(())
+}
+
 /// The head of a lookup with one subtable, which follows it.
 fn lookup_head(kind: usize, flag: u16) -> Result<Vec<u8>, AllocError> {
     let mut bytes = Vec::new();
-    for number in [kind, usize::from(flag), 1, 8] {
-        put(&mut bytes, number)?;
-    }
+    put_all(&mut bytes, &[kind, usize::from(flag), 1, 8])?;
     Ok(bytes)
 }
 
@@ -41,14 +47,11 @@ pub(crate) fn single_lookup(
         return Ok(None);
     }
     let mut bytes = lookup_head(1, flag)?;
-    for number in [2, behind(6, 2, pairs.len()), pairs.len()] {
-        put(&mut bytes, number)?;
-    }
+    put_all(&mut bytes, &[2, behind(6, 2, pairs.len()), pairs.len()])?;
     for pair in pairs {
         put(&mut bytes, usize::from(pair.1))?;
     }
-    put(&mut bytes, 1)?;
-    put(&mut bytes, pairs.len())?;
+    put_all(&mut bytes, &[1, pairs.len()])?;
     for pair in pairs {
         put(&mut bytes, usize::from(pair.0))?;
     }
@@ -71,8 +74,7 @@ pub(crate) fn ligature_lookup(
     let sets = set_lengths(rows)?;
     let mut bytes = lookup_head(4, flag)?;
     put_sets(&mut bytes, rows, sets.as_slice())?;
-    put(&mut bytes, 1)?;
-    put(&mut bytes, sets.len())?;
+    put_all(&mut bytes, &[1, sets.len()])?;
     let mut at = 0usize;
     for length in sets.iter() {
         if let Some(row) = rows.get(at) {
@@ -114,9 +116,7 @@ fn set_lengths(rows: &[LigatureRow]) -> Result<Vec<usize>, AllocError> {
 
 /// Adds the head of a subtable of ligatures: the coverage stands behind it, and then the sets.
 fn put_sets(bytes: &mut Vec<u8>, rows: &[LigatureRow], sets: &[usize]) -> Result<(), AllocError> {
-    for number in [1, behind(6, 2, sets.len()), sets.len()] {
-        put(bytes, number)?;
-    }
+    put_all(bytes, &[1, behind(6, 2, sets.len()), sets.len()])?;
     let mut offset = behind(10, 4, sets.len());
     for length in sets {
         put(bytes, offset)?;
@@ -136,24 +136,15 @@ fn size_of_row(rows: &[LigatureRow]) -> usize {
 /// Adds the ligatures that begin with one glyph.
 fn put_set(bytes: &mut Vec<u8>, rows: &[LigatureRow]) -> Result<(), AllocError> {
     put(bytes, rows.len())?;
+    let first = behind(2, 2, rows.len());
     for i in 0..rows.len() {
-        put(
-            bytes,
-            behind(behind(2, 2, rows.len()), size_of_row(rows), i),
-        )?;
+        put(bytes, behind(first, size_of_row(rows), i))?;
     }
     for row in rows {
-        put(bytes, usize::from(row.ligature))?;
+        let (ligature, second) = (usize::from(row.ligature), usize::from(row.second));
         match row.third {
-            Some(third) => {
-                put(bytes, 3)?;
-                put(bytes, usize::from(row.second))?;
-                put(bytes, usize::from(third))?;
-            }
-            None => {
-                put(bytes, 2)?;
-                put(bytes, usize::from(row.second))?;
-            }
+            Some(third) => put_all(bytes, &[ligature, 3, second, usize::from(third)])?,
+            None => put_all(bytes, &[ligature, 2, second])?,
         }
     }
     Ok(())
@@ -162,9 +153,7 @@ fn put_set(bytes: &mut Vec<u8>, rows: &[LigatureRow]) -> Result<(), AllocError> 
 /// The table of lookups, without scripts and features.
 pub(crate) fn table_of(lookups: &[Vec<u8>]) -> Result<Vec<u8>, AllocError> {
     let mut bytes = Vec::new();
-    for number in [1, 0, 0, 0, 10, lookups.len()] {
-        put(&mut bytes, number)?;
-    }
+    put_all(&mut bytes, &[1, 0, 0, 0, 10, lookups.len()])?;
     let mut offset = behind(2, 2, lookups.len());
     for lookup in lookups {
         put(&mut bytes, offset)?;

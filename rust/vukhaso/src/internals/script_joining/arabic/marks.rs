@@ -23,8 +23,7 @@ const ABOVE: u16 = 230;
 ///
 /// ```text
 /// ensures is { buffer.new ≡ arabic.marks_reordered start end buffer.old }
-/// ensures closed { buffer.new.have_output ≡ false }
-/// ensures keeps { KeepsClusters buffer.old buffer.new }
+/// ensures stays { StaysClosed buffer.old buffer.new }
 /// ```
 #[inline]
 pub fn reorder_marks(buffer: &mut hb_buffer_t, start: usize, end: usize) {

@@ -19,8 +19,7 @@ use crate::script_joining::joining::kind::joining_type;
 /// # Proved
 ///
 /// ```text
-/// ensures closed { buffer.new.have_output ≡ false }
-/// ensures keeps { KeepsClusters buffer.old buffer.new }
+/// ensures { StaysClosed buffer.old buffer.new }
 /// ```
 #[inline]
 pub fn join_letters(buffer: &mut hb_buffer_t) {
@@ -88,8 +87,7 @@ fn is_transparent(character: char) -> bool {
 ///
 /// ```text
 /// ensures is { buffer.new ≡ record buffer.old { input = selectors_formed buffer.old.input } }
-/// ensures closed { buffer.new.have_output ≡ false }
-/// ensures keeps { KeepsClusters buffer.old buffer.new }
+/// ensures stays { StaysClosed buffer.old buffer.new }
 /// ```
 #[inline]
 pub fn form_variation_selectors(buffer: &mut hb_buffer_t) {

@@ -30,8 +30,7 @@ struct Stretched {
 ///
 /// ```text
 /// ensures is { buffer.new ≡ arabic.pieces_recorded buffer.old }
-/// ensures closed { buffer.new.have_output ≡ false }
-/// ensures keeps { KeepsClusters buffer.old buffer.new }
+/// ensures stays { StaysClosed buffer.old buffer.new }
 /// ```
 #[inline]
 pub fn record_pieces(buffer: &mut hb_buffer_t) {
@@ -107,8 +106,7 @@ fn component(info: &hb_glyph_info_t) -> u8 {
 ///
 /// # Requires
 ///
-/// - `closed: buffer.old.have_output ≡ false`
-/// - `placed: IsSome buffer.old.positions`
+/// - `HasPositions buffer.old`
 ///
 /// # Errors
 ///
@@ -117,16 +115,13 @@ fn component(info: &hb_glyph_info_t) -> u8 {
 /// # Proved
 ///
 /// ```text
-/// ensures closed { IfOk result (λ done. done ≡ true → buffer.new.have_output ≡ false) }
 /// ensures placed { IfOk result (λ done. done ≡ true → IsSome buffer.new.positions) }
 /// ensures done { IfOk result (λ done. done ≡ true → buffer.new.successful ≡ buffer.old.successful) }
-/// ensures refusal { IsRefusal false result buffer.new }
-/// ensures keeps { KeepsClusters buffer.old buffer.new }
+/// ensures closes { Closes result buffer.old buffer.new }
 /// ```
 #[inline]
 pub fn stretch<F: FontGlyphs>(buffer: &mut hb_buffer_t, font: &F) -> Result<bool, AllocError> {
-    debug_assert!(!buffer.have_output());
-    debug_assert!(buffer.have_positions());
+    debug_assert!(!buffer.have_output() && buffer.have_positions());
     if buffer.scratch_flags & HB_BUFFER_SCRATCH_FLAG_SHAPER0 == 0 {
         return Ok(true);
     }
@@ -136,37 +131,20 @@ pub fn stretch<F: FontGlyphs>(buffer: &mut hb_buffer_t, font: &F) -> Result<bool
     }
 }
 
-/// What a text becomes, whichever way its line runs; `None` where it would become too long.
+/// What a text becomes, whichever way its line runs; `None` where it would become too long. Where words
+/// stand behind their marks, the text is reversed while it is read.
 ///
 /// # Requires
 ///
-/// - `closed: buffer.old.have_output ≡ false`
-/// - `placed: IsSome buffer.old.positions`
+/// - `HasPositions buffer.old`
 fn stretched_line<F: FontGlyphs>(
     buffer: &mut hb_buffer_t,
     font: &F,
 ) -> Result<Option<Stretched>, AllocError> {
-    debug_assert!(!buffer.have_output());
-    debug_assert!(buffer.have_positions());
+    debug_assert!(!buffer.have_output() && buffer.have_positions());
     if buffer.direction == Direction::RightToLeft {
-        stretched_text(buffer, font, true)
-    } else {
-        stretched_backwards(buffer, font)
+        return stretched_text(buffer, font, true);
     }
-}
-
-/// What a text becomes whose words stand behind their marks: it is reversed while it is read.
-///
-/// # Requires
-///
-/// - `closed: buffer.old.have_output ≡ false`
-/// - `placed: IsSome buffer.old.positions`
-fn stretched_backwards<F: FontGlyphs>(
-    buffer: &mut hb_buffer_t,
-    font: &F,
-) -> Result<Option<Stretched>, AllocError> {
-    debug_assert!(!buffer.have_output());
-    debug_assert!(buffer.have_positions());
     buffer.reverse();
     let stretched = stretched_text(buffer, font, false);
     buffer.reverse();
@@ -177,15 +155,13 @@ fn stretched_backwards<F: FontGlyphs>(
 ///
 /// # Requires
 ///
-/// - `closed: buffer.old.have_output ≡ false`
-/// - `placed: IsSome buffer.old.positions`
+/// - `HasPositions buffer.old`
 fn stretched_text<F: FontGlyphs>(
     buffer: &mut hb_buffer_t,
     font: &F,
     is_right_to_left: bool,
 ) -> Result<Option<Stretched>, AllocError> {
-    debug_assert!(!buffer.have_output());
-    debug_assert!(buffer.have_positions());
+    debug_assert!(!buffer.have_output() && buffer.have_positions());
     let stretches = stretches_of(buffer, font)?;
     if !buffer.ensure(stretched_length(buffer.len(), stretches.as_slice()))? {
         return Ok(None);
@@ -199,11 +175,9 @@ fn stretched_text<F: FontGlyphs>(
 ///
 /// # Requires
 ///
-/// - `closed: buffer.old.have_output ≡ false`
-/// - `placed: IsSome buffer.old.positions`
+/// - `HasPositions buffer.old`
 fn flag_words(buffer: &mut hb_buffer_t, stretches: &[Stretch]) {
-    debug_assert!(!buffer.have_output());
-    debug_assert!(buffer.have_positions());
+    debug_assert!(!buffer.have_output() && buffer.have_positions());
     for stretch in stretches {
         if stretch.word <= stretch.end && stretch.end <= buffer.len() {
             buffer.unsafe_to_break(Some(stretch.word), Some(stretch.end));
@@ -215,11 +189,9 @@ fn flag_words(buffer: &mut hb_buffer_t, stretches: &[Stretch]) {
 ///
 /// # Requires
 ///
-/// - `closed: buffer.now.have_output ≡ false`
-/// - `placed: IsSome buffer.now.positions`
+/// - `HasPositions buffer.now`
 fn stretches_of<F: FontGlyphs>(buffer: &hb_buffer_t, font: &F) -> Result<Vec<Stretch>, AllocError> {
-    debug_assert!(!buffer.have_output());
-    debug_assert!(buffer.have_positions());
+    debug_assert!(!buffer.have_output() && buffer.have_positions());
     let infos = buffer.info();
     let positions = buffer.pos();
     let mut stretches = Vec::new();
@@ -281,25 +253,18 @@ impl Stretched {
     ) -> Result<(), AllocError> {
         let mut end = infos.len();
         for stretch in stretches {
-            self.keep(positions, stretch.end, end)?;
+            self.keep(positions.get(stretch.end..end))?;
             self.stretch(infos, positions, stretch, font)?;
             end = stretch.start;
         }
-        self.keep(positions, 0, end)
+        self.keep(positions.get(..end))
     }
 
-    /// Adds the glyphs from a place to another as they are.
-    fn keep(
-        &mut self,
-        positions: &[GlyphPosition],
-        start: usize,
-        end: usize,
-    ) -> Result<(), AllocError> {
-        if let Some(positions) = positions.get(start..end) {
-            for position in positions.iter().rev() {
-                self.counts.push(1)?;
-                self.positions.push(*position)?;
-            }
+    /// Adds glyphs as they are, if there are any.
+    fn keep(&mut self, positions: Option<&[GlyphPosition]>) -> Result<(), AllocError> {
+        for position in positions.unwrap_or(&[]).iter().rev() {
+            self.counts.push(1)?;
+            self.positions.push(*position)?;
         }
         Ok(())
     }

@@ -172,17 +172,13 @@ fn flag_before(
     next: Option<JoiningType>,
 ) {
     debug_assert!(!buffer.have_output());
-    match at {
-        Some(start) => match next {
-            Some(own) => {
-                if heeds {
-                    let end = buffer.len();
-                    flag_between(buffer, tie_of(true, own), start, end);
-                }
+    if let Some(start) = at {
+        if let Some(own) = next {
+            if heeds {
+                let end = buffer.len();
+                flag_between(buffer, tie_of(true, own), start, end);
             }
-            None => {}
-        },
-        None => {}
+        }
     }
 }
 

@@ -36,18 +36,7 @@ use ArabicAction::*;
 impl ArabicAction {
     /// The number under which an item keeps the form.
     pub(crate) fn number(self) -> u8 {
-        match self {
-            Unformed => 0,
-            Isol => 1,
-            Fina => 2,
-            Fin2 => 3,
-            Fin3 => 4,
-            Medi => 5,
-            Med2 => 6,
-            Init => 7,
-            StchFixed => 8,
-            StchRepeating => 9,
-        }
+        self as u8
     }
 }
 

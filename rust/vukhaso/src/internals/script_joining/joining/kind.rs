@@ -69,15 +69,7 @@ impl JoiningType {
 
     /// The number under which an item keeps the type.
     pub(crate) fn number(self) -> u8 {
-        match self {
-            NonJoining => 0,
-            Left => 1,
-            Right => 2,
-            Dual => 3,
-            Alaph => 4,
-            DalathRish => 5,
-            Transparent => 6,
-        }
+        self as u8
     }
 
     /// The type with a number.

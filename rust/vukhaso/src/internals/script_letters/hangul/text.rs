@@ -57,8 +57,7 @@ pub fn prepare<F: FontGlyphs>(buffer: &mut hb_buffer_t, font: &F) -> Result<bool
 ///
 /// # Requires
 ///
-/// - `opened: buffer.old.have_output ≡ true`
-/// - `glyph: 0 < length buffer.old.input`
+/// - `HasCurrent buffer.old`
 ///
 /// # Errors
 ///
@@ -68,8 +67,7 @@ fn read_next<F: FontGlyphs>(
     font: &F,
     last: Syllable,
 ) -> Result<Option<Syllable>, AllocError> {
-    debug_assert!(buffer.have_output());
-    debug_assert!(!buffer.info().is_empty());
+    debug_assert!(buffer.have_output() && !buffer.info().is_empty());
     let first = buffer.cur(0).glyph_id;
     if !is_tone(first) {
         return read_syllable(buffer, font);
@@ -85,14 +83,12 @@ fn read_next<F: FontGlyphs>(
 ///
 /// # Requires
 ///
-/// - `opened: buffer.old.have_output ≡ true`
-/// - `glyph: 0 < length buffer.old.input`
+/// - `HasCurrent buffer.old`
 fn read_syllable<F: FontGlyphs>(
     buffer: &mut hb_buffer_t,
     font: &F,
 ) -> Result<Option<Syllable>, AllocError> {
-    debug_assert!(buffer.have_output());
-    debug_assert!(!buffer.info().is_empty());
+    debug_assert!(buffer.have_output() && !buffer.info().is_empty());
     let first = character_at(buffer.info(), 0);
     let second = character_at(buffer.info(), 1);
     let third = character_at(buffer.info(), 2);
@@ -139,11 +135,9 @@ fn flag_unsafe(buffer: &mut hb_buffer_t, count: usize) {
 ///
 /// # Requires
 ///
-/// - `opened: buffer.old.have_output ≡ true`
-/// - `glyph: 0 < length buffer.old.input`
+/// - `HasCurrent buffer.old`
 fn take_step(buffer: &mut hb_buffer_t, step: Step) -> Result<bool, AllocError> {
-    debug_assert!(buffer.have_output());
-    debug_assert!(!buffer.info().is_empty());
+    debug_assert!(buffer.have_output() && !buffer.info().is_empty());
     let start = buffer.out_len();
     match step {
         Step::Compose(count, syllable) if count <= buffer.lookahead_len() => {
@@ -172,15 +166,13 @@ fn take_step(buffer: &mut hb_buffer_t, step: Step) -> Result<bool, AllocError> {
 ///
 /// # Requires
 ///
-/// - `opened: buffer.old.have_output ≡ true`
-/// - `glyph: 0 < length buffer.old.input`
+/// - `HasCurrent buffer.old`
 fn put_jamo(
     buffer: &mut hb_buffer_t,
     jamo: (u32, u32, u32),
     takes_next: bool,
 ) -> Result<bool, AllocError> {
-    debug_assert!(buffer.have_output());
-    debug_assert!(!buffer.info().is_empty());
+    debug_assert!(buffer.have_output() && !buffer.info().is_empty());
     let (leading, vowel, trailing) = jamo;
     let count = if trailing == 0 { 2 } else { 3 };
     if !buffer.replace_glyphs(1, count, &[leading, vowel, trailing])? {

@@ -16,15 +16,13 @@ const DOTTED_CIRCLE: u32 = 0x25CC;
 ///
 /// # Requires
 ///
-/// - `opened: buffer.old.have_output ≡ true`
-/// - `glyph: 0 < length buffer.old.input`
+/// - `HasCurrent buffer.old`
 pub(crate) fn read_tone<F: FontGlyphs>(
     buffer: &mut hb_buffer_t,
     font: &F,
     last: Syllable,
 ) -> Result<bool, AllocError> {
-    debug_assert!(buffer.have_output());
-    debug_assert!(!buffer.info().is_empty());
+    debug_assert!(buffer.have_output() && !buffer.info().is_empty());
     let tone = buffer.cur(0).glyph_id;
     if last.start < last.end && last.end == buffer.out_len() {
         return read_after_syllable(buffer, last, !has_no_width(font, tone));
@@ -54,8 +52,7 @@ fn on_circle(tone: u32, has_no_width: bool) -> [u32; 2] {
 ///
 /// # Requires
 ///
-/// - `opened: buffer.old.have_output ≡ true`
-/// - `glyph: 0 < length buffer.old.input`
+/// - `current: HasCurrent buffer.old`
 /// - `order: last.start < last.end`
 /// - `ends: last.end ≡ length buffer.old.out`
 fn read_after_syllable(
@@ -63,8 +60,7 @@ fn read_after_syllable(
     last: Syllable,
     is_moved: bool,
 ) -> Result<bool, AllocError> {
-    debug_assert!(buffer.have_output());
-    debug_assert!(!buffer.info().is_empty());
+    debug_assert!(buffer.have_output() && !buffer.info().is_empty());
     let read = buffer.idx();
     buffer.unsafe_to_break_from_outbuffer(Some(last.start), Some(read));
     if buffer.lookahead_len() == 0 {

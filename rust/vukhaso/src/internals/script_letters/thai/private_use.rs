@@ -197,8 +197,7 @@ fn chosen(above: Action, below: Action) -> Action {
 /// # Proved
 ///
 /// ```text
-/// ensures closed { buffer.new.have_output ≡ false }
-/// ensures keeps { KeepsClusters buffer.old buffer.new }
+/// ensures { StaysClosed buffer.old buffer.new }
 /// ```
 #[inline]
 pub fn shape_private_use<F: FontGlyphs>(buffer: &mut hb_buffer_t, font: &F) {

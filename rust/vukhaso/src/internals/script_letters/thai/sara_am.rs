@@ -90,11 +90,9 @@ fn split_next(buffer: &mut hb_buffer_t) -> Result<bool, AllocError> {
 ///
 /// # Requires
 ///
-/// - `opened: buffer.old.have_output ≡ true`
-/// - `glyph: 0 < length buffer.old.input`
+/// - `HasCurrent buffer.old`
 fn split_current(buffer: &mut hb_buffer_t) -> Result<bool, AllocError> {
-    debug_assert!(buffer.have_output());
-    debug_assert!(!buffer.info().is_empty());
+    debug_assert!(buffer.have_output() && !buffer.info().is_empty());
     let character = buffer.cur(0).glyph_id;
     let Some((ring, rest)) = parts_of(character) else {
         return buffer.next_glyph();
@@ -119,11 +117,9 @@ fn parts_of(character: u32) -> Option<(u32, u32)> {
 ///
 /// # Requires
 ///
-/// - `opened: buffer.old.have_output ≡ true`
-/// - `glyph: 0 < length buffer.old.input`
+/// - `HasCurrent buffer.old`
 fn put_ring(buffer: &mut hb_buffer_t, ring: u32) -> Result<bool, AllocError> {
-    debug_assert!(buffer.have_output());
-    debug_assert!(!buffer.info().is_empty());
+    debug_assert!(buffer.have_output() && !buffer.info().is_empty());
     if !buffer.output_glyph(ring)? {
         return Ok(false);
     }

@@ -59,8 +59,7 @@ fn order_part(
             coengs
         }
         Part::CoengRo if coengs <= MOST_COENGS => {
-            mask_coeng_ro(buffer, place, range.end, plan);
-            move_to_start(buffer, range.start, place, 2);
+            move_coeng_ro(buffer, range, place, plan);
             MOST_COENGS
         }
         Part::Coeng if coengs <= MOST_COENGS => coengs + 1,
@@ -107,6 +106,17 @@ fn part_at(infos: &[hb_glyph_info_t], place: usize, end: usize) -> Part {
         Some([first, ..]) if category(first) == Category::VowelPre => Part::VowelPre,
         _ => Part::Other,
     }
+}
+
+/// Moves a coeng and a RO from a place of a syllable to its start, with their masks.
+///
+/// # Requires
+///
+/// - `buffer.old.have_output ≡ false`
+fn move_coeng_ro(buffer: &mut hb_buffer_t, range: &Range<usize>, place: usize, plan: &KhmerPlan) {
+    debug_assert!(!buffer.have_output());
+    mask_coeng_ro(buffer, place, range.end, plan);
+    move_to_start(buffer, range.start, place, 2);
 }
 
 /// Sets the masks of a coeng and a RO at a place, and of what stands behind them.

@@ -3,9 +3,9 @@
 //! The order of the glyphs of Myanmar syllables, before the basic features.
 
 use crate::buffer::{hb_buffer_t, hb_glyph_info_t};
+use crate::passes::normalization::{MarkClasses, order_run};
 use crate::script_syllables::item::position;
 use crate::script_syllables::left_matras::turn_left_matras;
-use crate::script_syllables::moves::move_last;
 use crate::script_syllables::reordering::SyllableOrder;
 use crate::script_syllables::syllables::{kind_at, within};
 use crate::script_universal::myanmar::plan::MyanmarShaper;
@@ -34,16 +34,39 @@ fn order_syllable(buffer: &mut hb_buffer_t, range: &Range<usize>) {
     turn_matras(buffer, range);
 }
 
-/// Moves the items of a syllable into the order of their positions.
+/// The positions of items, by which they are put in order as marks are by their classes.
+struct Positions;
+
+///
+/// # Proved
+///
+/// ```text
+/// ghost classes = { λ _. position_number }
+/// ghost alike = { λ _ g. refl }
+/// ```
+impl MarkClasses for Positions {
+    fn class_of(&self, info: &hb_glyph_info_t) -> u16 {
+        position_number(info)
+    }
+}
+
+/// The number of an item's position.
+fn position_number(info: &hb_glyph_info_t) -> u16 {
+    u16::from(position(info) as u8)
+}
+
+/// Moves the items of a syllable into the order of their positions. Before one moves back, its cluster
+/// is merged with those that it passes.
 ///
 /// # Requires
 ///
 /// - `buffer.old.have_output ≡ false`
 fn move_items(buffer: &mut hb_buffer_t, range: &Range<usize>) {
     debug_assert!(!buffer.have_output());
-    for place in range.start..range.end {
-        move_back(buffer, range.start, place);
+    if range.start >= range.end || range.end > buffer.len() {
+        return;
     }
+    order_run(buffer, &Positions, range.start, range.end);
 }
 
 /// Gives each item of a syllable its position.
@@ -76,33 +99,4 @@ fn turn_matras(buffer: &mut hb_buffer_t, range: &Range<usize>) {
 fn turn_in(infos: &mut [hb_glyph_info_t], range: &Range<usize>) {
     let range = within(range, infos.len());
     turn_left_matras(&mut infos[range.start..range.end]);
-}
-
-/// Moves an item behind the items before it whose positions come no later, all in one cluster.
-///
-/// # Requires
-///
-/// - `buffer.old.have_output ≡ false`
-fn move_back(buffer: &mut hb_buffer_t, start: usize, place: usize) {
-    debug_assert!(!buffer.have_output());
-    let to = new_place(buffer.info(), start, place);
-    if to < place {
-        let end = place.saturating_add(1);
-        buffer.merge_clusters(to, end);
-        move_last(buffer, to, end, 1);
-    }
-}
-
-/// The place of an item behind those before it whose positions come no later.
-fn new_place(infos: &[hb_glyph_info_t], start: usize, place: usize) -> usize {
-    let (Some(info), Some(before)) = (infos.get(place), infos.get(start..place)) else {
-        return place;
-    };
-    for turn in 0..before.len() {
-        let at = before.len() - turn;
-        if position(&before[at - 1]) <= position(info) {
-            return start.saturating_add(at);
-        }
-    }
-    start
 }

@@ -40,8 +40,7 @@ struct Joined {
 /// # Proved
 ///
 /// ```text
-/// ensures closed { buffer.new.have_output ≡ false }
-/// ensures keeps { KeepsClusters buffer.old buffer.new }
+/// ensures { StaysClosed buffer.old buffer.new }
 /// ```
 #[inline]
 pub fn flag_forms<L: FormLookup>(buffer: &mut hb_buffer_t, masks: &FormMasks, lookup: &L) {

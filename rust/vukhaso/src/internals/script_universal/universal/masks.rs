@@ -4,7 +4,7 @@
 
 use crate::buffer::{hb_buffer_t, hb_glyph_info_t};
 use crate::script_syllables::item::add_mask;
-use crate::script_syllables::syllables::{kind_at, syllable_end};
+use crate::script_syllables::syllables::{SyllableWork, kind_at, syllable_end, work_on_all};
 use crate::script_universal::universal::item::is;
 use crate::script_universal::universal::plan::{BROKEN, FormMasks};
 use crate::universal_categories::UniversalCategory;
@@ -22,29 +22,26 @@ const SYMBOL: u8 = 5;
 /// - `buffer.old.have_output ≡ false`
 pub(crate) fn mask_rephs(buffer: &mut hb_buffer_t, mask: u32) {
     debug_assert!(!buffer.have_output());
-    mask_all_rephs(buffer.info_slice_mut(), mask);
+    work_on_all(buffer.info_slice_mut(), &RephMask(mask));
 }
 
-/// Does that in a list.
-fn mask_all_rephs(infos: &mut [hb_glyph_info_t], mask: u32) {
-    let mut start = 0;
-    for _turn in 0..infos.len() {
-        if start >= infos.len() {
-            break;
-        }
-        let end = syllable_end(infos, start);
-        mask_reph(infos, start, end, mask);
-        start = end;
+/// The mask of rephs.
+#[derive(Debug)]
+struct RephMask(u32);
+
+impl SyllableWork for RephMask {
+    fn work_on(&self, syllable: &mut [hb_glyph_info_t]) {
+        mask_reph(syllable, self.0);
     }
 }
 
 /// Sets the mask of rephs on the first items of a syllable: on one that is a reph already, or on three.
-fn mask_reph(infos: &mut [hb_glyph_info_t], start: usize, end: usize, mask: u32) {
-    let count = match infos.get(start) {
+fn mask_reph(syllable: &mut [hb_glyph_info_t], mask: u32) {
+    let count = match syllable.first() {
         Some(first) if is(first, UniversalCategory::Repha) => 1,
         _ => REPH_LENGTH,
     };
-    add_mask(infos, start, end.min(start.saturating_add(count)), mask);
+    add_mask(syllable, 0, count, mask);
 }
 
 /// How a syllable stands in its word, as far as it was read.

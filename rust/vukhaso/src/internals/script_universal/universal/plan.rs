@@ -83,16 +83,14 @@ impl UniversalPlan {
     /// # Proved
     ///
     /// ```text
-    /// ensures closed { IfOk result (λ done. done ≡ true → buffer.new.have_output ≡ false) }
-    /// ensures refusal { IsRefusal false result buffer.new }
-    /// ensures keeps { KeepsNumbers buffer.old buffer.new }
+    /// ensures { Reorders result buffer.old buffer.new }
     /// ```
     #[inline]
     pub fn pause<F: FontForms>(
         &self,
+        pause: Pause,
         buffer: &mut hb_buffer_t,
         font: &F,
-        pause: Pause,
     ) -> Result<bool, AllocError> {
         debug_assert!(!buffer.have_output());
         match pause {

@@ -5,7 +5,7 @@
 use crate::buffer::{hb_buffer_t, hb_glyph_info_t};
 use crate::glyph::GlyphPropsFlags;
 use crate::script_syllables::item::is_substituted;
-use crate::script_syllables::syllables::syllable_end;
+use crate::script_syllables::syllables::{SyllableWork, work_on_all};
 use crate::script_universal::universal::item::set;
 use crate::universal_categories::UniversalCategory;
 
@@ -47,25 +47,18 @@ pub(crate) struct Recorded {
 /// - `buffer.old.have_output ≡ false`
 pub(crate) fn record_made(buffer: &mut hb_buffer_t, recorded: Recorded) {
     debug_assert!(!buffer.have_output());
-    record_all(buffer.info_slice_mut(), recorded);
+    work_on_all(buffer.info_slice_mut(), &recorded);
 }
 
-/// Does that in a list.
-fn record_all(infos: &mut [hb_glyph_info_t], recorded: Recorded) {
-    let mut start = 0;
-    for _turn in 0..infos.len() {
-        if start >= infos.len() {
-            break;
-        }
-        let end = syllable_end(infos, start);
-        record_first(infos, start, end, recorded);
-        start = end;
+impl SyllableWork for Recorded {
+    fn work_on(&self, syllable: &mut [hb_glyph_info_t]) {
+        record_first(syllable, *self);
     }
 }
 
 /// Does that in a syllable.
-fn record_first(infos: &mut [hb_glyph_info_t], start: usize, end: usize, recorded: Recorded) {
-    for place in start..end.min(infos.len()) {
+fn record_first(infos: &mut [hb_glyph_info_t], recorded: Recorded) {
+    for place in 0..infos.len() {
         if !may_have_made(&infos[place], recorded.mask) {
             return;
         }

@@ -5,6 +5,13 @@
 use crate::fault_tests::run::{PLAIN, Run};
 use vukhaso::internals::runs::Call;
 
+/// A run over two glyphs.
+const AB: Run<'static> = Run {
+    least: 4,
+    text: "AB",
+    ..PLAIN
+};
+
 pub static WHOLE: [Run<'static>; 9] = [
     Run {
         name: "one is dropped, three are put out and all taken back, then sync",
@@ -22,19 +29,15 @@ pub static WHOLE: [Run<'static>; 9] = [
     },
     Run {
         name: "one is replaced by three, which are taken back",
-        least: 4,
-        text: "AB",
         calls: &[
             Call::ClearOutput,
             Call::ReplaceGlyphs(1, 3, &[1, 2, 3]),
             Call::MoveTo(0),
         ],
-        ..PLAIN
+        ..AB
     },
     Run {
         name: "one is replaced by three, which may not be taken back",
-        least: 4,
-        text: "AB",
         max_len: 3,
         calls: &[
             Call::ClearOutput,
@@ -43,7 +46,7 @@ pub static WHOLE: [Run<'static>; 9] = [
             Call::Sync,
             Call::SkipGlyph,
         ],
-        ..PLAIN
+        ..AB
     },
     Run {
         name: "a rewind over glyphs that overlap",
@@ -63,8 +66,6 @@ pub static WHOLE: [Run<'static>; 9] = [
     },
     Run {
         name: "three are taken back past the cursor, and put out again",
-        least: 4,
-        text: "AB",
         calls: &[
             Call::ClearOutput,
             Call::ReplaceGlyphs(1, 3, &[1, 2, 3]),
@@ -73,12 +74,10 @@ pub static WHOLE: [Run<'static>; 9] = [
             Call::NextGlyph,
             Call::MoveTo(3),
         ],
-        ..PLAIN
+        ..AB
     },
     Run {
         name: "a ligature and two glyphs after it",
-        least: 4,
-        text: "AB",
         calls: &[
             Call::ClearOutput,
             Call::ReplaceGlyphs(2, 1, &[9]),
@@ -87,7 +86,7 @@ pub static WHOLE: [Run<'static>; 9] = [
             Call::Sync,
         ],
         is_placed: true,
-        ..PLAIN
+        ..AB
     },
     Run {
         name: "ensure",

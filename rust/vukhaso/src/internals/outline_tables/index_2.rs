@@ -1,15 +1,22 @@
-// Written by tools/plain_rust from crates/font_outlines. Do not edit.
+// Written by tools/plain_rust from crates/outline_tables. Do not edit.
 
 //! The items of an INDEX of the table `CFF2`, whose count has 32 bits (OpenType specification, "CFF2 - Compact Font Format 2
 //! Table", "INDEX Data").
 
-use crate::font_gvar::glyf::between;
-use crate::font_outlines::subroutines::bias;
 use crate::font_tables::bytes::{u8_at, u32_at};
 use crate::font_variations::index_map::number_of_size;
+use crate::outline_tables::glyf::between;
+use crate::outline_tables::subroutines::bias;
 
 /// How many items an INDEX has; none where the table is empty.
-pub(crate) fn count_2(index: &[u8]) -> u32 {
+///
+/// # Proved
+///
+/// ```text
+/// ensures { result ≡ count_2 index.now }
+/// ```
+#[inline]
+pub fn count_2(index: &[u8]) -> u32 {
     u32_at(index, 0).unwrap_or(0)
 }
 
@@ -34,7 +41,14 @@ fn base_2(index: &[u8]) -> usize {
 }
 
 /// The bytes of an item; `None` where the INDEX has no such item.
-pub(crate) fn item_2(index: &[u8], number: u32) -> Option<&[u8]> {
+///
+/// # Proved
+///
+/// ```text
+/// ensures { option_copied result ≡ item_2 index.now number }
+/// ```
+#[inline]
+pub fn item_2(index: &[u8], number: u32) -> Option<&[u8]> {
     if number < count_2(index) {
         let start = offset_2(index, u64::from(number))?;
         let end = offset_2(index, u64::from(number) + 1)?;
@@ -46,7 +60,14 @@ pub(crate) fn item_2(index: &[u8], number: u32) -> Option<&[u8]> {
 }
 
 /// The subroutine that a number calls in an INDEX; `None` where there is no such one.
-pub(crate) fn subroutine_2(index: &[u8], number: i32) -> Option<&[u8]> {
+///
+/// # Proved
+///
+/// ```text
+/// ensures { option_copied result ≡ subroutine_2 index.now number }
+/// ```
+#[inline]
+pub fn subroutine_2(index: &[u8], number: i32) -> Option<&[u8]> {
     let place = i64::from(number) + i64::from(bias(count_2(index)));
     item_2(index, u32::try_from(place).ok()?)
 }

@@ -1,4 +1,4 @@
-// Written by tools/plain_rust from crates/font_gvar. Do not edit.
+// Written by tools/plain_rust from crates/outline_tables. Do not edit.
 
 //! Outlines of the tables `glyf` and `loca` (OpenType specification, `glyf` and `loca`).
 
@@ -139,11 +139,11 @@ fn distance(from: i16, to: i16) -> i32 {
 }
 
 /// How many bytes the header of an outline has.
-pub(crate) const HEADER_SIZE: usize = 10;
+pub const HEADER_SIZE: usize = 10;
 
 /// What an outline is.
 #[derive(Clone, Copy, Debug)]
-pub(crate) enum OutlineKind {
+pub enum OutlineKind {
     /// It has no points.
     Empty,
     /// It has so many contours.
@@ -153,7 +153,14 @@ pub(crate) enum OutlineKind {
 }
 
 /// What an outline is, by its number of contours.
-pub(crate) fn outline_kind(outline: &[u8]) -> OutlineKind {
+///
+/// # Proved
+///
+/// ```text
+/// ensures { result ≡ outline_kind outline.now }
+/// ```
+#[inline]
+pub fn outline_kind(outline: &[u8]) -> OutlineKind {
     match u16_at(outline, 0).unwrap_or(0) {
         0 => OutlineKind::Empty,
         count if count < 0x8000 => OutlineKind::Simple(count),

@@ -1,11 +1,12 @@
-// Written by tools/plain_rust from crates/shape_command. Do not edit.
+// Written by tools/plain_rust from crates/shape_answers. Do not edit.
 
 //! What the program does.
 
+use crate::answers::drawing::draw_text;
+use crate::answers::lines::{answer_lines, answer_paragraph};
+use crate::answers::shaper::{LineShaper, LineState};
+use crate::answers::texts::{Asked, Shapes};
 use crate::buffer::{GlyphId, NoGlyphNames, SerializeFlags};
-use crate::command::drawing::draw_text;
-use crate::command::lines::{answer_lines, answer_paragraph};
-use crate::command::shaper::{LineShaper, LineState};
 use crate::fonts::font_file::FontFile;
 use crate::fonts::synthetic_font::{LineNames, SyntheticFont, SyntheticNames};
 use crate::host::Files;
@@ -34,52 +35,70 @@ use std::mem;
 /// ensures { OnOk result (IsSome file.new.path) }
 /// ```
 #[inline]
-pub fn answer_command<'a, F: Files + AllocGlobal + Eprint, S: AsStr, R: BufRead, W: Write>(
+pub fn answer_command<
+    'a,
+    F: Files + AllocGlobal + Eprint,
+    T: Shapes,
+    S: AsStr,
+    R: BufRead,
+    W: Write,
+>(
     rt: &F,
+    texts: &T,
     words: &'a [S],
     file: &mut FontFile,
     input: &mut R,
     output: &mut W,
 ) -> Result<bool, CommandError<'a>> {
     let options = options_of(words)?;
-    answer_with_file(rt, &options, file, input, output)
+    answer_with_file(rt, texts, &options, file, input, output)
 }
 
 /// Answers what a command line asks for, with the font of the file that it names.
-fn answer_with_file<'a, F: Files + AllocGlobal + Eprint, R: BufRead, W: Write>(
+fn answer_with_file<'a, F: Files + AllocGlobal + Eprint, T: Shapes, R: BufRead, W: Write>(
     rt: &F,
+    texts: &T,
     options: &Options<'a>,
     file: &mut FontFile,
     input: &mut R,
     output: &mut W,
 ) -> Result<bool, CommandError<'a>> {
     read_font_file(rt, options, file)?;
+    let mut texts = texts.anew();
     match LoadedFont::new(file, options.font)? {
-        Some(mut font) => answer_options(rt, options, &mut font, input, output),
+        Some(mut font) => answer_options(rt, &mut texts, options, &mut font, input, output),
         None => Err(CommandError::Face(options.font_file)),
     }
 }
 
 /// Answers what a command line asks for, with its font. The font's names are found only where they are
 /// asked for.
-pub(crate) fn answer_options<'a, F: Files + AllocGlobal + Eprint, R: BufRead, W: Write>(
+pub(crate) fn answer_options<
+    'a,
+    F: Files + AllocGlobal + Eprint,
+    T: Shapes,
+    R: BufRead,
+    W: Write,
+>(
     rt: &F,
+    texts: &mut T,
     options: &Options<'a>,
     font: &mut LoadedFont<'_>,
     input: &mut R,
     output: &mut W,
 ) -> Result<bool, CommandError<'a>> {
     font.vary(options.variations.as_slice())?;
+    let asked = Asked { options, texts };
     match options.output_file {
-        None => answer_into(rt, options, font, input, output),
-        Some(file) => answer_into_file(rt, options, font, input, file),
+        None => answer_into(rt, asked, font, input, output),
+        Some(file) => answer_into_file(rt, asked, font, input, file),
     }
 }
 
 /// Answers what a command line asks for, into a file.
-fn answer_into_file<'a, F: Files + AllocGlobal + Eprint, R: BufRead>(
+fn answer_into_file<'a, F: Files + AllocGlobal + Eprint, T: Shapes, R: BufRead>(
     rt: &F,
-    options: &Options<'a>,
+    asked: Asked<'_, 'a, '_, T>,
     font: &mut LoadedFont<'_>,
     input: &mut R,
     file: &'a str,
@@ -88,7 +107,7 @@ fn answer_into_file<'a, F: Files + AllocGlobal + Eprint, R: BufRead>(
         Ok(output) => output,
         Err(error) => return Err(CommandError::OutputFile { file, error }),
     };
-    let answered = answer_into(rt, options, font, input, &mut output)?;
+    let answered = answer_into(rt, asked, font, input, &mut output)?;
     match output.flush() {
         Ok(()) => Ok(answered),
         Err(error) => Err(CommandError::Output(error)),
@@ -102,54 +121,67 @@ fn create<F: Files + AllocGlobal>(rt: &F, file: &str) -> io::Result<BufWriter<F:
 
 /// Answers what a command line asks for. The names of glyphs are found where they are asked for, or
 /// their extents.
-fn answer_into<'a, F: Files + AllocGlobal + Eprint, R: BufRead, W: Write>(
+fn answer_into<'a, F: Files + AllocGlobal + Eprint, T: Shapes, R: BufRead, W: Write>(
     rt: &F,
-    options: &Options<'a>,
+    asked: Asked<'_, 'a, '_, T>,
     font: &mut LoadedFont<'_>,
     input: &mut R,
     output: &mut W,
 ) -> Result<bool, CommandError<'a>> {
+    let options = asked.options;
     if options.svg {
-        return draw_text(options, font, output);
+        return draw_text(asked, font, output);
     }
     if !asks_font(options.output.flags) && !options.line.glyphs {
-        return answer_named(rt, options, font, NoGlyphNames, input, output).0;
+        return answer_named(rt, asked, font, NoGlyphNames, input, output).0;
     }
     let names = take_names(&mut font.names, &font.face)?;
     if synthetic_of(font, options).is_plain() {
-        let (answered, names) = answer_named(rt, options, font, names, input, output);
+        let (answered, names) = answer_named(rt, asked, font, names, input, output);
         font.names = Some(names);
         return answered;
     }
     let names = SyntheticNames::new(names);
-    let (answered, names) = answer_named(rt, options, font, names, input, output);
+    let (answered, names) = answer_named(rt, asked, font, names, input, output);
     font.names = Some(names.into_names());
     answered
 }
 
 /// Answers what a command line asks for, with the names of glyphs, which it gives back. There is an
 /// error where the shaping of a line was given up.
-fn answer_named<'a, F: Files + AllocGlobal + Eprint, N: LineNames, R: BufRead, W: Write>(
+fn answer_named<
+    'a,
+    F: Files + AllocGlobal + Eprint,
+    T: Shapes,
+    N: LineNames,
+    R: BufRead,
+    W: Write,
+>(
     rt: &F,
-    options: &Options<'a>,
+    asked: Asked<'_, 'a, '_, T>,
     font: &mut LoadedFont<'_>,
     names: N,
     input: &mut R,
     output: &mut W,
 ) -> (Result<bool, CommandError<'a>>, N) {
+    let Asked { options, texts } = asked;
     let kept = mem::replace(&mut font.kept, KeptLine::new());
+    let fresh = texts.anew();
     let shaper = shaper_of(font, options);
     let mut state = LineState {
+        texts: mem::replace(texts, fresh),
         names,
         kept,
         advances: shaper.advances(),
     };
     let answered = answer_text(rt, &shaper, &mut state, &options.text, input, output);
     let LineState {
+        texts: used,
         names,
         mut kept,
         advances: _,
     } = state;
+    *texts = used;
     let answered = unless_given_up(answered, &mut kept);
     font.kept = kept;
     (answered, names)
@@ -197,10 +229,17 @@ fn asks_font(flags: SerializeFlags) -> bool {
 }
 
 /// Answers a text.
-fn answer_text<'a, F: Files + AllocGlobal + Eprint, N: LineNames, R: BufRead, W: Write>(
+fn answer_text<
+    'a,
+    F: Files + AllocGlobal + Eprint,
+    T: Shapes,
+    N: LineNames,
+    R: BufRead,
+    W: Write,
+>(
     rt: &F,
     shaper: &LineShaper<'_>,
-    state: &mut LineState<'_, N>,
+    state: &mut LineState<'_, N, T>,
     text: &TextSource<'a>,
     input: &mut R,
     output: &mut W,
@@ -225,10 +264,10 @@ fn open<F: Files + AllocGlobal>(rt: &F, file: &str) -> io::Result<BufReader<F::F
 }
 
 /// Answers a text line by line, or as one line.
-fn answer_all<'a, F: AllocGlobal + Eprint, N: LineNames, R: BufRead, W: Write>(
+fn answer_all<'a, F: AllocGlobal + Eprint, T: Shapes, N: LineNames, R: BufRead, W: Write>(
     rt: &F,
     shaper: &LineShaper<'_>,
-    state: &mut LineState<'_, N>,
+    state: &mut LineState<'_, N, T>,
     file: &'a str,
     reader: &mut R,
     writer: &mut W,

@@ -1,4 +1,4 @@
-// Written by tools/plain_rust from crates/font_outlines. Do not edit.
+// Written by tools/plain_rust from crates/outline_tables. Do not edit.
 
 //! Numbers in DICT data and in charstrings (The Compact Font Format Specification, "DICT Data", and The Type 2 Charstring
 //! Format, "Charstring Number Encoding").
@@ -7,7 +7,14 @@ use crate::font_tables::bytes::{i16_at, u8_at};
 
 /// The number at the front of DICT data or of a charstring, in the forms that both have; `None` where
 /// there is none.
-pub(crate) fn number(code: &[u8]) -> Option<i16> {
+///
+/// # Proved
+///
+/// ```text
+/// ensures { result ≡ number code.now }
+/// ```
+#[inline]
+pub fn number(code: &[u8]) -> Option<i16> {
     let first = u8_at(code, 0)?;
     match first {
         28 => i16_at(code, 1),
@@ -27,7 +34,14 @@ pub(crate) fn number(code: &[u8]) -> Option<i16> {
 }
 
 /// How many bytes a number has, by the first of them.
-pub(crate) fn number_length(first: u8) -> usize {
+///
+/// # Proved
+///
+/// ```text
+/// ensures { result ≡ number_length first }
+/// ```
+#[inline]
+pub fn number_length(first: u8) -> usize {
     match first {
         28 => 3,
         0..=246 => 1,

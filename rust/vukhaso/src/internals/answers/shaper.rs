@@ -1,8 +1,11 @@
-// Written by tools/plain_rust from crates/shape_command. Do not edit.
+// Written by tools/plain_rust from crates/shape_answers. Do not edit.
 
 //! What a line is answered with: how it is shaped.
 
+use crate::answers::texts::{LineFont, Shapes};
 use crate::buffer::{Direction, GlyphBuffer, GlyphId, UnicodeBuffer};
+use crate::font_face::Face;
+use crate::font_functions::OwnFunctions;
 use crate::fonts::fallback::shape_fallback;
 use crate::fonts::kept_advances::KeptAdvances;
 use crate::fonts::synthetic_font::{LineNames, SyntheticFont};
@@ -18,10 +21,7 @@ use crate::lines::text::{fill, lossy_text};
 use crate::memory::{AllocError, Vec};
 use crate::options::options::{LineOptions, Shaper};
 use crate::options::output::Output;
-use crate::ot_shape::{
-    Face, ShapeError, shape_watched, shape_with_functions_and_plans, shape_with_functions_watched,
-    shape_with_kept_plans,
-};
+use crate::verification::ShapeError;
 
 /// What is printed of a line.
 #[derive(Debug)]
@@ -36,7 +36,9 @@ pub struct Answered {
 
 /// What lines are answered by that changes from line to line.
 #[derive(Debug)]
-pub struct LineState<'a, N> {
+pub struct LineState<'a, N, T> {
+    /// What shapes their texts.
+    pub texts: T,
     /// Names and extents of glyphs.
     pub names: N,
     /// What is kept of the line before.
@@ -112,10 +114,10 @@ impl<'a> LineShaper<'a> {
     /// ensures list { IfOk result (λ answered. IsList answered.characters.items) }
     /// ```
     #[inline]
-    pub fn answer<N: LineNames>(
+    pub fn answer<N: LineNames, T: Shapes>(
         &self,
 
-        state: &mut LineState<'_, N>,
+        state: &mut LineState<'_, N, T>,
         line: &[u8],
     ) -> Result<Answered, AllocError> {
         match std::str::from_utf8(line) {
@@ -128,10 +130,10 @@ impl<'a> LineShaper<'a> {
     }
 
     /// The answer to a line that is UTF-8.
-    fn answer_to_text<N: LineNames>(
+    fn answer_to_text<N: LineNames, T: Shapes>(
         &self,
 
-        state: &mut LineState<'_, N>,
+        state: &mut LineState<'_, N, T>,
         line: &str,
     ) -> Result<Answered, AllocError> {
         let characters = shown_characters(self.options, self.output.shown, line)?;
@@ -145,10 +147,10 @@ impl<'a> LineShaper<'a> {
     }
 
     /// What a line is answered with, which is a text or writes glyphs.
-    fn answer_to_line<N: LineNames>(
+    fn answer_to_line<N: LineNames, T: Shapes>(
         &self,
 
-        state: &mut LineState<'_, N>,
+        state: &mut LineState<'_, N, T>,
         trace: &mut Trace,
         line: &str,
     ) -> Result<Answer, AllocError> {
@@ -159,15 +161,32 @@ impl<'a> LineShaper<'a> {
             advances.keep_characters(line);
         }
         self.shape_unprinted(state, trace, line)?;
-        let answer = self.shape(state, trace, line)?;
-        Ok(answer)
+        match self.filled_text(state, line)? {
+            Some(text) => self.shape(state, trace, text),
+            None => Ok(Answer::Failed),
+        }
+    }
+
+    /// The text of a line, in the buffer that is kept; `None` where it is too long.
+    fn filled_text<N: LineNames, T: Shapes>(
+        &self,
+
+        state: &mut LineState<'_, N, T>,
+        line: &str,
+    ) -> Result<Option<UnicodeBuffer>, AllocError> {
+        let mut text = state.kept.take_text(self.options);
+        if fill(self.options, line, &mut text)? {
+            Ok(Some(text))
+        } else {
+            Ok(None)
+        }
     }
 
     /// The answer to a line that writes glyphs.
-    fn answer_to_glyphs<N: LineNames>(
+    fn answer_to_glyphs<N: LineNames, T: Shapes>(
         &self,
 
-        state: &mut LineState<'_, N>,
+        state: &mut LineState<'_, N, T>,
         line: &str,
     ) -> Result<Answer, AllocError> {
         let mut text = state.kept.take_text(self.options);
@@ -187,18 +206,17 @@ impl<'a> LineShaper<'a> {
     }
 
     /// Shapes a line once less than is asked for: what it gives is not printed.
-    fn shape_unprinted<N: LineNames>(
+    fn shape_unprinted<N: LineNames, T: Shapes>(
         &self,
 
-        state: &mut LineState<'_, N>,
+        state: &mut LineState<'_, N, T>,
         trace: &mut Trace,
         line: &str,
     ) -> Result<(), AllocError> {
         for _ in 1..self.iterations {
-            let mut text = state.kept.take_text(self.options);
-            if !fill(self.options, line, &mut text)? {
+            let Some(text) = self.filled_text(state, line)? else {
                 return Ok(());
-            }
+            };
             match self.shape_text(state, trace, text) {
                 Ok(glyphs) => state.kept.text = Some(glyphs.clear()),
                 Err(ShapeError::Memory) => return Err(AllocError),
@@ -208,18 +226,14 @@ impl<'a> LineShaper<'a> {
         Ok(())
     }
 
-    /// What a line is answered with.
-    fn shape<N: LineNames>(
+    /// What the text of a line is answered with.
+    fn shape<N: LineNames, T: Shapes>(
         &self,
 
-        state: &mut LineState<'_, N>,
+        state: &mut LineState<'_, N, T>,
         trace: &mut Trace,
-        line: &str,
+        text: UnicodeBuffer,
     ) -> Result<Answer, AllocError> {
-        let mut text = state.kept.take_text(self.options);
-        if !fill(self.options, line, &mut text)? {
-            return Ok(Answer::Failed);
-        }
         let edits = self.edits(text.direction());
         match self.shape_text(state, trace, text) {
             Ok(glyphs) => self.print_edited(state, &edits, glyphs),
@@ -231,9 +245,9 @@ impl<'a> LineShaper<'a> {
     }
 
     /// Shapes a text by the shaper that is chosen.
-    fn shape_text<N: LineNames>(
+    fn shape_text<N: LineNames, T: Shapes>(
         &self,
-        state: &mut LineState<'_, N>,
+        state: &mut LineState<'_, N, T>,
         trace: &mut Trace,
         text: UnicodeBuffer,
     ) -> Result<GlyphBuffer, ShapeError> {
@@ -241,33 +255,41 @@ impl<'a> LineShaper<'a> {
             return Ok(shape_fallback(&self.font, text)?);
         }
         if self.output.trace {
-            return self.shape_traced(trace, text);
+            return self.shape_traced(&mut state.texts, trace, text);
         }
-        let features = self.options.features.as_slice();
-        let plans = &mut state.kept.plans;
         if let Some(advances) = &mut state.advances {
-            let glyphs =
-                shape_with_functions_and_plans(self.face, advances, features, plans, text)?;
+            let glyphs = state.texts.shape(&self.line_font(advances), text)?;
             advances.keep_glyphs(glyphs.glyph_infos());
             return Ok(glyphs);
         }
         if self.font.is_plain() {
-            return shape_with_kept_plans(self.face, features, plans, text);
+            let own = OwnFunctions { face: self.face };
+            return state.texts.shape(&self.line_font(&own), text);
         }
-        shape_with_functions_and_plans(self.face, &self.font, features, plans, text)
+        state.texts.shape(&self.line_font(&self.font), text)
     }
 
     /// Shapes a text, whose steps are kept to be printed.
-    fn shape_traced(
+    fn shape_traced<T: Shapes>(
         &self,
+        texts: &mut T,
         trace: &mut Trace,
         text: UnicodeBuffer,
     ) -> Result<GlyphBuffer, ShapeError> {
-        let features = self.options.features.as_slice();
         if self.font.is_plain() {
-            return shape_watched(self.face, features, text, trace);
+            let own = OwnFunctions { face: self.face };
+            return texts.shape_watched(&self.line_font(&own), text, trace);
         }
-        shape_with_functions_watched(self.face, &self.font, features, text, trace)
+        texts.shape_watched(&self.line_font(&self.font), text, trace)
+    }
+
+    /// The font of which these functions answer.
+    fn line_font<'f, F>(&self, functions: &'f F) -> LineFont<'a, 'f, 'a, F> {
+        LineFont {
+            face: self.face,
+            functions,
+            features: self.options.features.as_slice(),
+        }
     }
 
     /// What the options change of the glyphs of a text in this direction.
@@ -286,10 +308,10 @@ impl<'a> LineShaper<'a> {
     }
 
     /// What is printed of glyphs with the changes that options ask for.
-    fn print_edited<N: LineNames>(
+    fn print_edited<N: LineNames, T: Shapes>(
         &self,
 
-        state: &mut LineState<'_, N>,
+        state: &mut LineState<'_, N, T>,
         edits: &Edits,
         glyphs: GlyphBuffer,
     ) -> Result<Answer, AllocError> {
@@ -300,10 +322,10 @@ impl<'a> LineShaper<'a> {
     }
 
     /// What is printed of glyphs, whose buffer is kept for the next line.
-    fn print_and_keep<N: LineNames>(
+    fn print_and_keep<N: LineNames, T: Shapes>(
         &self,
 
-        state: &mut LineState<'_, N>,
+        state: &mut LineState<'_, N, T>,
         glyphs: GlyphBuffer,
     ) -> Result<Answer, AllocError> {
         let printer = GlyphPrinter {

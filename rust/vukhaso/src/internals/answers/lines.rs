@@ -1,8 +1,9 @@
-// Written by tools/plain_rust from crates/shape_command. Do not edit.
+// Written by tools/plain_rust from crates/shape_answers. Do not edit.
 
 //! The lines of a text, and their answers.
 
-use crate::command::shaper::{LineShaper, LineState};
+use crate::answers::shaper::{LineShaper, LineState};
+use crate::answers::texts::Shapes;
 use crate::fonts::synthetic_font::LineNames;
 use crate::host::io::{self, BufRead, ErrorKind, Read, Write};
 use crate::host::{AllocGlobal, Eprint};
@@ -29,10 +30,10 @@ use crate::memory::Vec;
 ///     (W.contents writer.old) (W.contents writer.new)) }
 /// ```
 #[inline]
-pub fn answer_lines<F: AllocGlobal + Eprint, N: LineNames, R: BufRead, W: Write>(
+pub fn answer_lines<F: AllocGlobal + Eprint, T: Shapes, N: LineNames, R: BufRead, W: Write>(
     rt: &F,
     shaper: &LineShaper<'_>,
-    state: &mut LineState<'_, N>,
+    state: &mut LineState<'_, N, T>,
     reader: &mut R,
     writer: &mut W,
 ) -> Result<bool, LinesError> {
@@ -63,10 +64,10 @@ pub fn answer_lines<F: AllocGlobal + Eprint, N: LineNames, R: BufRead, W: Write>
 ///     (W.contents writer.old) (W.contents writer.new)) }
 /// ```
 #[inline]
-pub fn answer_paragraph<F: AllocGlobal + Eprint, N: LineNames, R: Read, W: Write>(
+pub fn answer_paragraph<F: AllocGlobal + Eprint, T: Shapes, N: LineNames, R: Read, W: Write>(
     rt: &F,
     shaper: &LineShaper<'_>,
-    state: &mut LineState<'_, N>,
+    state: &mut LineState<'_, N, T>,
     reader: &mut R,
     writer: &mut W,
 ) -> Result<bool, LinesError> {
@@ -84,10 +85,10 @@ pub fn answer_paragraph<F: AllocGlobal + Eprint, N: LineNames, R: Read, W: Write
 }
 
 /// Answers a line of this number, and says whether it was shaped.
-fn answer_line<F: AllocGlobal + Eprint, N: LineNames, W: Write>(
+fn answer_line<F: AllocGlobal + Eprint, T: Shapes, N: LineNames, W: Write>(
     rt: &F,
     shaper: &LineShaper<'_>,
-    state: &mut LineState<'_, N>,
+    state: &mut LineState<'_, N, T>,
     number: u64,
     line: &[u8],
     writer: &mut W,

@@ -1,14 +1,14 @@
-// Written by tools/plain_rust from crates/font_outlines. Do not edit.
+// Written by tools/plain_rust from crates/outline_tables. Do not edit.
 
 //! DICT data (The Compact Font Format Specification, "DICT Data").
 
-use crate::font_outlines::operand::{number, number_length};
 use crate::font_tables::bytes::{tail, u8_at, u32_at};
 use crate::numbers::ToSigned;
+use crate::outline_tables::operand::{number, number_length};
 
 /// What outlines need of a Top DICT, a Font DICT or a Private DICT: 0 where the DICT does not say it.
 #[derive(Clone, Copy, Debug, Default)]
-pub(crate) struct Dict {
+pub struct Dict {
     /// The offset of the charset, or the number of a predefined one.
     pub charset: i32,
     /// The offset of the INDEX of charstrings.
@@ -39,7 +39,7 @@ enum Token {
 }
 
 /// The numbers before an operator.
-#[derive(Clone, Copy, Debug, Default)]
+#[derive(Clone, Copy, Debug)]
 struct Numbers {
     count: usize,
     last: i32,
@@ -48,9 +48,16 @@ struct Numbers {
 
 impl Dict {
     /// What DICT data say; `None` where they are broken.
-    pub(crate) fn read(data: &[u8]) -> Option<Dict> {
+    ///
+    /// # Proved
+    ///
+    /// ```text
+    /// ensures { result ≡ dict_of data.now }
+    /// ```
+    #[inline]
+    pub fn read(data: &[u8]) -> Option<Dict> {
         let mut dict = Dict::default();
-        let mut numbers = Numbers::default();
+        let mut numbers = Numbers::none();
         let mut rest = data;
         for _ in data {
             if rest.is_empty() {
@@ -61,7 +68,7 @@ impl Dict {
                 Token::Number(number) => numbers.push(number),
                 Token::Operator(operator) => {
                     dict.set(operator, numbers)?;
-                    numbers = Numbers::default();
+                    numbers = Numbers::none();
                 }
             }
             rest = after;
@@ -108,6 +115,14 @@ const ESCAPED_FD_ARRAY: u16 = 292;
 const ESCAPED_FD_SELECT: u16 = 293;
 
 impl Numbers {
+    fn none() -> Self {
+        Numbers {
+            count: 0,
+            last: 0,
+            before: 0,
+        }
+    }
+
     fn push(&mut self, number: i32) {
         self.before = self.last;
         self.last = number;

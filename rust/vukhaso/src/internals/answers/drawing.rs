@@ -1,16 +1,18 @@
-// Written by tools/plain_rust from crates/shape_command. Do not edit.
+// Written by tools/plain_rust from crates/shape_answers. Do not edit.
 
 //! A text whose shaping is drawn step by step.
 
+use crate::answers::texts::{Asked, LineFont, Shapes};
 use crate::buffer::hb_buffer_t;
+use crate::font_functions::OwnFunctions;
 use crate::glyphs::picture::{Picture, RowName};
 use crate::host::io::Write;
 use crate::kept::loaded_font::{LoadedFont, take_names};
 use crate::lines::errors::CommandError;
 use crate::lines::text::{empty_text, fill, given_text};
 use crate::memory::AllocError;
-use crate::options::options::{LineOptions, Options};
-use crate::ot_shape::{Face, FaceNames, ShapeError, Step, Watch, shape_watched};
+use crate::steps::{Step, Watch};
+use crate::verification::ShapeError;
 
 /// A picture, to which each step of shaping adds a row.
 #[derive(Debug)]
@@ -40,32 +42,20 @@ fn name_of(step: Step) -> RowName {
 
 /// Draws the steps of shaping a text with a font, as a picture in SVG, and says whether the text was
 /// shaped.
-pub(crate) fn draw_text<'a, W: Write>(
-    options: &Options<'a>,
+pub(crate) fn draw_text<'a, T: Shapes, W: Write>(
+    asked: Asked<'_, 'a, '_, T>,
     font: &mut LoadedFont<'_>,
     output: &mut W,
 ) -> Result<bool, CommandError<'a>> {
-    let text = given_text(&options.text)?;
-    let names = take_names(&mut font.names, &font.face)?;
-    let drawn = draw(&font.face, &names, &options.line, text, output);
-    font.names = Some(names);
-    drawn
-}
-
-/// Draws the steps of shaping a text.
-fn draw<'a, W: Write>(
-    face: &Face<'_>,
-    names: &FaceNames<'_>,
-    options: &LineOptions<'_>,
-    text: &str,
-    output: &mut W,
-) -> Result<bool, CommandError<'a>> {
+    let text = given_text(&asked.options.text)?;
     let mut drawing = Drawing {
         picture: Picture::new(),
     };
-    let is_shaped = shape_text(face, options, text, &mut drawing)?;
-    let svg = drawing.picture.draw(names)?;
-    write_picture(output, svg.as_str())?;
+    let is_shaped = shape_text(asked, font, text, &mut drawing)?;
+    let names = take_names(&mut font.names, &font.face)?;
+    let drawn = drawing.picture.draw(&names);
+    font.names = Some(names);
+    write_picture(output, drawn?.as_str())?;
     Ok(is_shaped)
 }
 
@@ -78,17 +68,24 @@ fn write_picture<'a, W: Write>(output: &mut W, picture: &str) -> Result<(), Comm
 }
 
 /// Shapes a text, and draws each step. The answer is whether it was shaped.
-fn shape_text(
-    face: &Face<'_>,
-    options: &LineOptions<'_>,
+fn shape_text<T: Shapes>(
+    asked: Asked<'_, '_, '_, T>,
+    font: &LoadedFont<'_>,
     text: &str,
     drawing: &mut Drawing,
 ) -> Result<bool, AllocError> {
+    let options = &asked.options.line;
     let mut characters = empty_text(options);
     if !fill(options, text, &mut characters)? {
         return Ok(false);
     }
-    match shape_watched(face, options.features.as_slice(), characters, drawing) {
+    let own = OwnFunctions { face: &font.face };
+    let font = LineFont {
+        face: &font.face,
+        functions: &own,
+        features: options.features.as_slice(),
+    };
+    match asked.texts.shape_watched(&font, characters, drawing) {
         Ok(glyphs) => Ok(!glyphs.shaping_failed()),
         Err(ShapeError::Memory) => Err(AllocError),
         Err(_) => Ok(false),

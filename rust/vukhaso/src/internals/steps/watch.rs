@@ -1,4 +1,4 @@
-// Written by tools/plain_rust from crates/ot_plan. Do not edit.
+// Written by tools/plain_rust from crates/shaping_steps. Do not edit.
 
 //! What is told while a text is shaped, step by step.
 

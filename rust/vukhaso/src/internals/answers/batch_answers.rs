@@ -1,9 +1,10 @@
-// Written by tools/plain_rust from crates/shape_command. Do not edit.
+// Written by tools/plain_rust from crates/shape_answers. Do not edit.
 
 //! The answers to the lines of a batch. A font is kept for all lines in a row that name it.
 
-use crate::command::ending::NAME;
-use crate::command::run::answer_options;
+use crate::answers::ending::NAME;
+use crate::answers::run::answer_options;
+use crate::answers::texts::Shapes;
 use crate::fonts::font_file::FontFile;
 use crate::host::io::{self, BufRead, Write};
 use crate::host::{AllocGlobal, Eprint, Files};
@@ -25,8 +26,9 @@ struct Run {
 }
 
 /// Answers each line of a batch, and says whether each was shaped.
-pub(crate) fn answer_batch<F: Files + AllocGlobal + Eprint, R: BufRead, W: Write>(
+pub(crate) fn answer_batch<F: Files + AllocGlobal + Eprint, T: Shapes, R: BufRead, W: Write>(
     rt: &F,
+    texts: &T,
     input: &mut R,
     output: &mut W,
 ) -> io::Result<bool> {
@@ -38,7 +40,7 @@ pub(crate) fn answer_batch<F: Files + AllocGlobal + Eprint, R: BufRead, W: Write
         if !has_line {
             break;
         }
-        let run = answer_run(rt, &mut file, &mut line, input, output)?;
+        let run = answer_run(rt, texts, &mut file, &mut line, input, output)?;
         all_shaped &= run.all_shaped;
         has_line = run.has_line;
     }
@@ -46,8 +48,9 @@ pub(crate) fn answer_batch<F: Files + AllocGlobal + Eprint, R: BufRead, W: Write
 }
 
 /// Answers the line that was read, and those behind it that name the same font.
-fn answer_run<F: Files + AllocGlobal + Eprint, R: BufRead, W: Write>(
+fn answer_run<F: Files + AllocGlobal + Eprint, T: Shapes, R: BufRead, W: Write>(
     rt: &F,
+    texts: &T,
     file: &mut FontFile,
     line: &mut Vec<u8>,
     input: &mut R,
@@ -55,7 +58,10 @@ fn answer_run<F: Files + AllocGlobal + Eprint, R: BufRead, W: Write>(
 ) -> io::Result<Run> {
     if let Some(choice) = read_named_font(rt, NAME, line.as_slice(), file, output)? {
         match LoadedFont::new(file, choice)? {
-            Some(mut font) => return answer_with(rt, &mut font, line, input, output),
+            Some(mut font) => {
+                let mut own = texts.anew();
+                return answer_with(rt, &mut own, &mut font, line, input, output);
+            }
             None => writeln!(output, "error: {}: Failed loading font face", file.path())?,
         }
     }
@@ -67,8 +73,9 @@ fn answer_run<F: Files + AllocGlobal + Eprint, R: BufRead, W: Write>(
 }
 
 /// Answers the line that was read with its font, and those behind it that name the same one.
-fn answer_with<F: Files + AllocGlobal + Eprint, R: BufRead, W: Write>(
+fn answer_with<F: Files + AllocGlobal + Eprint, T: Shapes, R: BufRead, W: Write>(
     rt: &F,
+    texts: &mut T,
     font: &mut LoadedFont<'_>,
     line: &mut Vec<u8>,
     input: &mut R,
@@ -76,7 +83,7 @@ fn answer_with<F: Files + AllocGlobal + Eprint, R: BufRead, W: Write>(
 ) -> io::Result<Run> {
     let mut all_shaped = true;
     for _ in 0..u64::MAX {
-        match answer_line(rt, line.as_slice(), font, input, output)? {
+        match answer_line(rt, texts, line.as_slice(), font, input, output)? {
             Some(is_shaped) => all_shaped &= is_shaped,
             None => {
                 return Ok(Run {
@@ -98,8 +105,9 @@ fn answer_with<F: Files + AllocGlobal + Eprint, R: BufRead, W: Write>(
 
 /// Answers a line, and says whether it was shaped; `None` where it names another font, and was not
 /// answered.
-fn answer_line<F: Files + AllocGlobal + Eprint, R: BufRead, W: Write>(
+fn answer_line<F: Files + AllocGlobal + Eprint, T: Shapes, R: BufRead, W: Write>(
     rt: &F,
+    texts: &mut T,
     line: &[u8],
     font: &mut LoadedFont<'_>,
     input: &mut R,
@@ -110,7 +118,7 @@ fn answer_line<F: Files + AllocGlobal + Eprint, R: BufRead, W: Write>(
         return Ok(Some(false));
     };
     let words = words_of_line(NAME, line)?;
-    match answer_words(rt, words.as_slice(), font, input, output) {
+    match answer_words(rt, texts, words.as_slice(), font, input, output) {
         Ok(answered) => Ok(answered),
         Err(CommandError::GivenUp) => Ok(Some(false)),
         Err(error) => {
@@ -122,8 +130,9 @@ fn answer_line<F: Files + AllocGlobal + Eprint, R: BufRead, W: Write>(
 
 /// Answers words, and says whether each line was shaped; `None` where they name another font, and were
 /// not answered.
-fn answer_words<'a, F: Files + AllocGlobal + Eprint, R: BufRead, W: Write>(
+fn answer_words<'a, F: Files + AllocGlobal + Eprint, T: Shapes, R: BufRead, W: Write>(
     rt: &F,
+    texts: &mut T,
     words: &'a [&'a str],
     font: &mut LoadedFont<'_>,
     input: &mut R,
@@ -133,6 +142,6 @@ fn answer_words<'a, F: Files + AllocGlobal + Eprint, R: BufRead, W: Write>(
     if !font.is_named_by(&options) {
         return Ok(None);
     }
-    let all_shaped = answer_options(rt, &options, font, input, output)?;
+    let all_shaped = answer_options(rt, texts, &options, font, input, output)?;
     Ok(Some(all_shaped))
 }

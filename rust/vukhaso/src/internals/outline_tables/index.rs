@@ -1,10 +1,10 @@
-// Written by tools/plain_rust from crates/font_outlines. Do not edit.
+// Written by tools/plain_rust from crates/outline_tables. Do not edit.
 
 //! The items of an INDEX (The Compact Font Format Specification, "INDEX Data").
 
-use crate::font_gvar::glyf::between;
 use crate::font_tables::bytes::{u8_at, u16_at};
 use crate::font_variations::index_map::number_of_size;
+use crate::outline_tables::glyf::between;
 
 /// How many items an INDEX has; none where the table is empty.
 ///

@@ -1,4 +1,4 @@
-// Written by tools/plain_rust from crates/font_outlines. Do not edit.
+// Written by tools/plain_rust from crates/outline_tables. Do not edit.
 
 //! The Font DICT of a glyph of a CID-keyed font (The Compact Font Format Specification, "FDSelect").
 
@@ -8,7 +8,14 @@ use crate::font_tables::rows::{Keys16, first_row};
 
 /// The number of a glyph's Font DICT, by a table that chooses it; `None` where the table does not reach
 /// the glyph.
-pub(crate) fn font_dict_of(select: &[u8], glyph: GlyphId) -> Option<u8> {
+///
+/// # Proved
+///
+/// ```text
+/// ensures { result ≡ font_dict_of select.now glyph.0 }
+/// ```
+#[inline]
+pub fn font_dict_of(select: &[u8], glyph: GlyphId) -> Option<u8> {
     match u8_at(select, 0)? {
         0 => u8_at(select, 1 + usize::from(glyph.0)),
         3 => ranged_dict(select, glyph),
